@@ -1,0 +1,56 @@
+// What a grey scale is, and what a measured scale adds to it.
+ghost use mathlib.Core.Path.{_≡_};
+ghost use mathlib.Core.Bool.{Bool};
+ghost use Prim.Native.Nat.{ℕ, _≤_};
+ghost use Rattle.std.specs.Orderings.{Decides};
+ghost use Rattle.scales.specs.Scales.{Grading, Lattice, Bounded, Gaps};
+
+// A kind of value with a relation "at or below", a join, a meet, a lowest and a highest value.
+// No function refuses, and each answer is a function of the arguments alone.
+pub trait Scale: Copy + PartialEq<Self> {
+    ghost grading: { Grading Self };
+
+    law lattice: { Lattice grading };
+
+    // Two values that a program finds equal are the same value.
+    law equality: { (a b : Self) (r : Bool) → Self·PartialEq .equals a b r → Decides r (a ≡ b) };
+
+    // Is this value at or below the other? It is exactly when the meet of the two is the value itself.
+    fn at_or_below(self, other: Self) -> bool
+        ensures { λ r. ⌜ Decides r (grading .below self other) ⌝ }
+    {
+        self.meet(other) == self
+    }
+
+    // The least value at or above both.
+    fn join(self, other: Self) -> Self
+        ensures { λ r. ⌜ r ≡ grading .join self other ⌝ };
+
+    // The greatest value at or below both.
+    fn meet(self, other: Self) -> Self
+        ensures { λ r. ⌜ r ≡ grading .meet self other ⌝ };
+
+    fn lowest() -> Self
+        ensures { λ r. ⌜ r ≡ grading .lowest ⌝ };
+
+    fn highest() -> Self
+        ensures { λ r. ⌜ r ≡ grading .highest ⌝ };
+
+    // Every value that a program can hold lies between the lowest and the highest.
+    fn bounded(self)
+        ensures { λ _. ⌜ Bounded grading self ⌝ };
+}
+
+// A grey scale that also says how far one value lies above another.
+pub trait Measured: Scale {
+    ghost excess: { Self → Self → ℕ };
+
+    law gaps: { Gaps (Self·Scale .grading) excess };
+
+    // How far this value lies above the one it is taken over: 0 exactly when it is at or below it.
+    fn gap(self, over: Self) -> u16
+        ensures value { λ r. ⌜ r ≡ excess self over ⌝ }
+        ensures range { λ r. ⌜ r ≤ 65535 ⌝ }
+        ensures only { λ r. ⌜ (r ≡ 0 → Self·Scale .grading .below self over) ⌝ }
+        ensures none { λ r. ⌜ (Self·Scale .grading .below self over → r ≡ 0) ⌝ };
+}
