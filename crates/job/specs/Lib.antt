@@ -1,0 +1,6 @@
+pub mod Faults
+pub mod Bounds
+pub mod Records
+pub mod Reading
+pub mod Lines
+pub mod Texts

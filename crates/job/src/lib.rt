@@ -1,0 +1,12 @@
+// Jobs: their records, the reader, and the text that a job prints.
+mod fault;
+mod head;
+mod letters;
+mod place;
+mod reader;
+mod reading;
+mod records;
+mod state;
+mod text;
+
+pub use text::report;

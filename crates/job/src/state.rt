@@ -1,0 +1,14 @@
+// The reader: where it is, and what holds of that.
+ghost use mathlib.Core.Path.{_≡_};
+ghost use mathlib.Core.Bool.{true};
+ghost use Prim.Native.Nat.{_*_, _≤_};
+ghost use Rattle.job.specs.Bounds.{next-within};
+use crate::place::Place;
+
+#[derive(Clone, Copy)]
+pub(crate) struct Reader {
+    pub(crate) place: Place,
+    ghost area: { place .count ≡ place .width * place .height },
+    ghost small: { place .count ≤ 4096 },
+    ghost within: { next-within (place .state) (place .next) (place .count) ≡ true },
+}
