@@ -9,10 +9,10 @@ use bench::BenchFaultFromMap;
 
 impl Head {
     // How many pixels the tile has, if tile, joining and tolerance pass.
-    pub(crate) fn check(self) -> Result<u16, BenchFault>
+    pub(crate) fn check(self) -> Result<usize, BenchFault>
         ensures { λ r. ⌜ r ≡ head-answer self ⌝ }
     {
-        let count = maps::tile_pixels(self.width as u16, self.height as u16, self.joining)?;
+        let count = maps::tile_pixels(self.width as usize, self.height as usize, self.joining)?;
         self.tolerance.check()?;
         Ok(count)
     }

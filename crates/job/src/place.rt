@@ -14,7 +14,7 @@ pub(crate) struct Place {
     pub(crate) state: State,
     pub(crate) width: u8,
     pub(crate) height: u8,
-    pub(crate) count: u16,
-    pub(crate) next: u16,
+    pub(crate) count: usize,
+    pub(crate) next: usize,
     pub(crate) calls: usize,
 }

@@ -97,15 +97,15 @@ impl Reader {
         ensures map { λ r. ⌜ now (map .exit) ≡ map-after r (now (self .entry) .place .next) (now (map .entry)) ⌝ }
         ensures picture { λ r. ⌜ now (picture .exit) ≡ picture-after r (now (self .entry) .place .next) (now (picture .entry)) ⌝ }
     {
-        let pixel = u16::from(bytes[1]) + 256 * u16::from(bytes[2]);
+        let pixel = bytes[1] as usize + 256 * bytes[2] as usize;
         if pixel != self.place.next {
             return Err(ReaderFault::Order(number));
         }
         let [_, _, _, value, grey, 0, 0, 0] = bytes else {
             return Err(ReaderFault::Filler(number));
         };
-        map[usize::from(pixel)] = *value;
-        picture[usize::from(pixel)] = *grey;
+        map[pixel] = *value;
+        picture[pixel] = *grey;
         self.place = self.place.after_pixel();
         Ok(Record::Pixel(*value, *grey))
     }
