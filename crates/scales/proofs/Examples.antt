@@ -3,11 +3,11 @@ use mathlib.Core.Path.{_≡_, refl}
 use Prim.Native.Nat.{ℕ, _≤_}
 use native.Mathlib.Omega.{arith}
 use lib.Count.{ones, onesIn}
-use Rattle.scales.specs.Phases.{mark, phase-gap}
+use Rattle.scales.specs.Phases.{mark}
 use Rattle.scales.specs.Examples.{Phase-examples, Relief-examples}
 
 pub phase-examples : Phase-examples
-unfolding phase-gap ones onesIn
+unfolding ones onesIn
 phase-examples = record {
   join = refl;
   meet = refl;

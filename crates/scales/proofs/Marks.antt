@@ -63,7 +63,7 @@ no-marks : (a : ℕ) → ones a ≡ 0 → a ≡ 0
 no-marks a e = no-marks-to a a (omega arith) e
 
 pub phase-gaps : Gaps phases phase-gap
-unfolding phase-gap ones
+unfolding ones
 phase-gaps = record {
   none = λ {a} {b} w. let e = of-within a b w in ap ones (let d : a - bitAnd a b ≡ 0 = omega arith in d);
   only = λ {a} {b} e. let d = no-marks (a - bitAnd a b) e in within-of a b (omega (arith, and-le-l a b));

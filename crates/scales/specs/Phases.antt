@@ -22,7 +22,7 @@ abbrev pub without : ℕ → ℕ → ℕ
 without a b = a - bitAnd a b
 
 -- how many marks of a are not in b
-unfoldable pub phase-gap : ℕ → ℕ → ℕ
+abbrev pub phase-gap : ℕ → ℕ → ℕ
 phase-gap a b = ones (without a b)
 
 -- Union, intersection and difference of sets, mark by mark.

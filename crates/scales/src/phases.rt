@@ -1,5 +1,7 @@
 // Phase sets: 32 marks as the bits of one number, ordered by inclusion.
-ghost use Rattle.scales.specs.Phases.{phases, phase-gap};
+ghost use mathlib.Core.Path.{_≡_};
+ghost use lib.Count.{ones};
+ghost use Rattle.scales.specs.Phases.{Within, phases, without, phase-gap};
 use crate::scale::Measured;
 use crate::scale::Scale;
 
@@ -25,10 +27,19 @@ pub impl Scale for u32 as PhaseSet {
     fn bounded(self) {}
 }
 
+// The marks of one set that another lacks: none exactly when the set lies within the other.
+fn lacking(set: u32, other: u32) -> u32
+    ensures marks { λ r. ⌜ r ≡ without set other ⌝ }
+    ensures only { λ r. ⌜ (ones r ≡ 0 → Within set other) ⌝ }
+    ensures none { λ r. ⌜ (Within set other → ones r ≡ 0) ⌝ }
+{
+    set & !other
+}
+
 pub impl Measured for u32 as PhaseSetMeasured {
     ghost excess = { phase-gap };
 
     fn gap(self, over: u32) -> u16 {
-        (self & !over).count_ones() as u16
+        lacking(self, over).count_ones() as u16
     }
 }

@@ -15,13 +15,6 @@ pub trait Scale: Copy + PartialEq<Self> {
     // Two values that a program finds equal are the same value.
     law equality: { (a b : Self) (r : Bool) → Self·PartialEq .equals a b r → Decides r (a ≡ b) };
 
-    // Is this value at or below the other? It is exactly when the meet of the two is the value itself.
-    fn at_or_below(self, other: Self) -> bool
-        ensures { λ r. ⌜ Decides r (grading .below self other) ⌝ }
-    {
-        self.meet(other) == self
-    }
-
     // The least value at or above both.
     fn join(self, other: Self) -> Self
         ensures { λ r. ⌜ r ≡ grading .join self other ⌝ };
@@ -39,6 +32,21 @@ pub trait Scale: Copy + PartialEq<Self> {
     // Every value that a program can hold lies between the lowest and the highest.
     fn bounded(self)
         ensures { λ _. ⌜ Bounded grading self ⌝ };
+}
+
+// Is the first value at or below the second, given their meet? It is exactly when the meet is the first.
+fn is_the_meet<S: Scale>(a: S, b: S, meet: S) -> bool
+    requires { ⌜ meet ≡ grading .meet a b ⌝ }
+    ensures { λ r. ⌜ Decides r (grading .below a b) ⌝ }
+{
+    meet == a
+}
+
+// Is the first value at or below the second?
+pub fn at_or_below<S: Scale>(a: S, b: S) -> bool
+    ensures { λ r. ⌜ Decides r (grading .below a b) ⌝ }
+{
+    is_the_meet(a, b, a.meet(b))
 }
 
 // A grey scale that also says how far one value lies above another.
