@@ -4,7 +4,7 @@ use mathlib.Core.List.{List, []}
 use Prim.Native.Nat.{ℕ, _+_, _<_, _≤_}
 use native.Mathlib.Numerals.{add-one}
 use native.Mathlib.Omega.{arith}
-use lib.ListN.{length, getD, drop}
+use lib.ListN.{length, getD, drop, replicate}
 use lib.Seq.{drop-cons, drop-length}
 use Rattle.std.specs.declared.option.Option.the-variants.{Some}
 use Rattle.std.specs.declared.result.Result.{Result}
@@ -13,7 +13,8 @@ use Rattle.job.specs.declared.fault.ReaderFault.{ReaderFault}
 use Rattle.job.specs.declared.records.Record.{Record}
 use Rattle.job.specs.declared.records.Record.the-variants as sound
 use Rattle.job.specs.declared.place.Place.{Place}
-use Rattle.job.specs.Reading.{Progress, taken, place-after, progress-after, at-end, read-on}
+use Rattle.job.specs.Reading.{Progress, Reading, start, taken, place-after, progress, progress-after, at-end, read-on, reading-from}
+use Rattle.job.specs.Texts.{reading-text, job-text}
 
 module _ (i : ℕ) (records : List (List ℕ)) (left : ℕ) (s : Progress) where
   -- a sound record leads on
@@ -35,3 +36,8 @@ calls-grow (Ok (sound.Head h)) p = omega arith
 calls-grow (Ok (sound.Pixel v g)) p = omega arith
 calls-grow (Ok (sound.Call o n)) p = omega arith
 calls-grow (Err f) p = omega arith
+
+-- a reading from the start that ended so has the text of its end
+pub text-from-start : (p : Place) (bs : List ℕ) (end : Reading) →
+    p ≡ start → reading-from bs (progress p (replicate 4096 0) (replicate 4096 0)) ≡ end → reading-text end ≡ job-text bs
+text-from-start p bs end e read = sym (ap (λ q. reading-text (reading-from bs (progress q (replicate 4096 0) (replicate 4096 0)))) (sym e) ∙ ap reading-text read)

@@ -1,4 +1,5 @@
 -- The lines that a job prints. Assumes nothing.
+use mathlib.Core.Path.{_≡_}
 use mathlib.Core.List.{List, [], _∷_, _++_}
 use mathlib.Core.Bool.{cond}
 use Prim.Native.Nat.{ℕ, zero, suc}
@@ -6,13 +7,20 @@ use lib.Chars.{codes}
 use lib.Dec.{eqb}
 use lib.ListN.{take, drop}
 use lib.Utf8.{encode}
+use Rattle.std.specs.Vec.{made}
 use Rattle.std.specs.Written.{decimal}
+use Rattle.std.specs.declared.alloc.AllocError.{AllocError}
+use Rattle.std.specs.declared.result.Result.{Result}
 use Rattle.std.specs.declared.option.Option.{Option}
 use Rattle.std.specs.declared.option.Option.the-variants.{Some, None}
 use Rattle.criteria.specs.Faults.{layer-letter}
 use Rattle.criteria.specs.declared.fault.Code.{Code}
 use Rattle.job.specs.declared.fault.ReaderFault.{ReaderFault}
 use Rattle.job.specs.Faults.{reader-code, added-record}
+
+-- a piece is added to a text, unless memory is wanting
+abbrev pub Appends : List ℕ → List ℕ → List ℕ → Result (Unit {0}) AllocError → Type 0
+Appends before piece after r = made r (λ u. after ≡ before ++ piece)
 
 abbrev pub newline : List ℕ
 newline = 10 ∷ []

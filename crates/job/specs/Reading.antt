@@ -1,4 +1,5 @@
 -- What the reader takes where, and where a job leaves it. Assumes nothing.
+use mathlib.Core.Path.{_≡_}
 use mathlib.Core.Bool.{Bool, true, false, cond}
 use mathlib.Core.List.{List, [], _∷_, _++_}
 use Prim.Native.Nat.{ℕ, _+_, _*_, _/_, _%_}
@@ -26,7 +27,7 @@ use Rattle.job.specs.declared.records.Record.the-variants as sound
 use Rattle.job.specs.declared.place.State.{State}
 use Rattle.job.specs.declared.place.State.the-variants as state
 use Rattle.job.specs.declared.place.Place.{Place}
-use Rattle.job.specs.Records.{kind-of, all-zero, filler-of, pixel-number, head-of, record-of}
+use Rattle.job.specs.Records.{kind-of, all-zero, filler-of, pixel-number, tolerance-of, head-of, record-of}
 
 -- may a record of this kind come here? one H, then a P for each pixel in order, then C until the end
 abbrev pub in-turn : State → Kind → ℕ → List ℕ → Bool
@@ -41,7 +42,7 @@ in-turn state.Calls kind.Pixel next bs = false
 in-turn state.Calls (kind.Call o) next bs = true
 
 abbrev pub tolerance-check : Head → Check MapFault
-tolerance-check h = record { holds = accepted (h .tolerance); fault = Tolerance }
+tolerance-check h = record { holds = accepted (tolerance-of (h .shape) (h .limit)); fault = Tolerance }
 
 -- an H names a tile, a joining and a tolerance that the map layer takes
 abbrev pub head-checks : Head → List (Check MapFault)
@@ -85,6 +86,14 @@ record-checks n p k bs = record { holds = in-turn (p .state) k (p .next) bs; fau
 -- what a record of this kind says, unless a check finds a fault
 abbrev pub checked : List (Check ReaderFault) → Kind → List ℕ → Result Record ReaderFault
 checked cs k bs = answered (first-fault cs) (record-of k bs)
+
+-- what record n says once it is known to come in turn
+abbrev pub content : ℕ → Kind → List ℕ → Result Record ReaderFault
+content n k bs = checked (content-checks n k bs) k bs
+
+-- what a P says once it is known that a P comes in turn
+abbrev pub numbered : ℕ → ℕ → List ℕ → Result Record ReaderFault
+numbered n next bs = checked (number-check n next bs ∷ content-checks n kind.Pixel bs) kind.Pixel bs
 
 abbrev pub lettered : ℕ → Place → Option Kind → List ℕ → Result Record ReaderFault
 lettered n p None bs = Err (Letter n)
@@ -169,6 +178,10 @@ ended (Err f) s = record { fault = Some f; left = s }
 abbrev pub paused : Result (Unit {0}) ReaderFault → ℕ → ℕ → Progress → Reading
 paused (Ok u) n rest s = record { fault = at-end n rest (s .place); left = s }
 paused (Err f) n rest s = record { fault = Some f; left = s }
+
+-- the records lead from s to s′ and end so, whatever is left over
+abbrev pub Reads-on : List (List ℕ) → Result (Unit {0}) ReaderFault → Progress → Progress → Type 0
+Reads-on records r s s′ = (left : ℕ) → read-on 0 records left s ≡ paused r (length records) left s′
 
 -- the records of a job are runs of eight bytes, numbered from 0
 abbrev pub reading-from : List ℕ → Progress → Reading

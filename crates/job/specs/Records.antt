@@ -64,7 +64,7 @@ tolerance-of Turn t = tolerance.Turn t
 
 -- what the other bytes of an H say
 abbrev pub head-of : Shape → List ℕ → Head
-head-of s bs = record { width = byte bs 1; height = byte bs 2; joining = byte bs 3; tolerance = tolerance-of s (byte bs 5) }
+head-of s bs = record { width = byte bs 1; height = byte bs 2; joining = byte bs 3; shape = s; limit = byte bs 5 }
 
 -- what a record of this kind says
 abbrev pub record-of : Kind → List ℕ → Record

@@ -13,7 +13,7 @@ impl Head {
         ensures { λ r. ⌜ r ≡ head-answer self ⌝ }
     {
         let count = maps::tile_pixels(self.width as usize, self.height as usize, self.joining)?;
-        self.tolerance.check()?;
+        self.shape.tolerance(self.limit).check()?;
         Ok(count)
     }
 }

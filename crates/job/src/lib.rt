@@ -8,5 +8,7 @@ mod reading;
 mod records;
 mod state;
 mod text;
+mod theorems;
 
 pub use text::report;
+pub use theorems::records_hold;

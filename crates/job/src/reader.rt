@@ -1,13 +1,10 @@
 // The reader takes the records of a job in turn: one H, then a P for each pixel in order, then C until the end.
 ghost use mathlib.Core.Path.{_≡_};
-ghost use Prim.Native.Nat.{ℕ, _+_, _^_, _<_};
-ghost use mathlib.Core.List.{_∷_};
+ghost use Prim.Native.Nat.{_+_, _^_, _<_};
 ghost use lib.ListN.{length};
-ghost use Rattle.maps.specs.Checks.{Check, first-fault, answered};
 ghost use Rattle.job.specs.declared.place.State.the-variants as state;
 ghost use Rattle.job.specs.declared.records.Kind.the-variants as kind;
-ghost use Rattle.job.specs.Records.{pixel-number};
-ghost use Rattle.job.specs.Reading.{start, next-place, number-check, content-checks, checked, taken, place-after, map-after, picture-after};
+ghost use Rattle.job.specs.Reading.{start, next-place, content, numbered, taken, place-after, map-after, picture-after};
 use crate::fault::ReaderFault;
 use crate::fault::ReaderFaultFromBench;
 use crate::head::at;
@@ -58,7 +55,7 @@ impl Reader {
 
     // Takes an H: the reader goes on to the pixels.
     fn head(&mut self, number: usize, shape: Shape, bytes: &[u8; 8]) -> Result<Record, ReaderFault>
-        ensures answer { λ r. ⌜ r ≡ checked (content-checks number (kind.Head shape) (now (bytes .entry))) (kind.Head shape) (now (bytes .entry)) ⌝ }
+        ensures answer { λ r. ⌜ r ≡ content number (kind.Head shape) (now (bytes .entry)) ⌝ }
         ensures place { λ r. ⌜ now (self .exit) .place ≡ place-after r (now (self .entry) .place) ⌝ }
     {
         let [_, width, height, joining, _, limit, 0, 0] = bytes else {
@@ -68,7 +65,8 @@ impl Reader {
             width: *width,
             height: *height,
             joining: *joining,
-            tolerance: shape.tolerance(*limit),
+            shape,
+            limit: *limit,
         };
         let count = at(number, head.check())?;
         self.place = Place {
@@ -92,7 +90,7 @@ impl Reader {
     ) -> Result<Record, ReaderFault>
         requires state { ⌜ now self .place .state ≡ state.Pixels ⌝ }
         requires buffers { ⌜ (length (now map) ≡ 4096) × (length (now picture) ≡ 4096) ⌝ }
-        ensures answer { λ r. ⌜ r ≡ checked (number-check number (now (self .entry) .place .next) (now (bytes .entry)) ∷ content-checks number kind.Pixel (now (bytes .entry))) kind.Pixel (now (bytes .entry)) ⌝ }
+        ensures answer { λ r. ⌜ r ≡ numbered number (now (self .entry) .place .next) (now (bytes .entry)) ⌝ }
         ensures place { λ r. ⌜ now (self .exit) .place ≡ place-after r (now (self .entry) .place) ⌝ }
         ensures map { λ r. ⌜ now (map .exit) ≡ map-after r (now (self .entry) .place .next) (now (map .entry)) ⌝ }
         ensures picture { λ r. ⌜ now (picture .exit) ≡ picture-after r (now (self .entry) .place .next) (now (picture .entry)) ⌝ }
@@ -118,7 +116,7 @@ impl Reader {
         bytes: &[u8; 8],
     ) -> Result<Record, ReaderFault>
         requires { ⌜ now self .place .calls + 1 < 2 ^ 64 ⌝ }
-        ensures answer { λ r. ⌜ r ≡ checked (content-checks number (kind.Call operation) (now (bytes .entry))) (kind.Call operation) (now (bytes .entry)) ⌝ }
+        ensures answer { λ r. ⌜ r ≡ content number (kind.Call operation) (now (bytes .entry)) ⌝ }
         ensures place { λ r. ⌜ now (self .exit) .place ≡ place-after r (now (self .entry) .place) ⌝ }
     {
         let [_, _, size, 0, 0, 0, 0, 0] = bytes else {

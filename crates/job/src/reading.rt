@@ -1,9 +1,8 @@
 // The reading of a whole job.
 ghost use mathlib.Core.Path.{_≡_};
-ghost use Prim.Native.Nat.{ℕ};
 ghost use lib.ListN.{length};
 ghost use Rattle.maps.specs.Checks.{answered};
-ghost use Rattle.job.specs.Reading.{at-end, progress, read-on, ended, paused, reading-from};
+ghost use Rattle.job.specs.Reading.{at-end, progress, ended, Reads-on, reading-from};
 use crate::fault::ReaderFault;
 use crate::place::Place;
 use crate::place::State;
@@ -34,7 +33,9 @@ impl Reader {
     ) -> Result<(), ReaderFault>
         requires calls { ⌜ now self .place .calls ≡ 0 ⌝ }
         requires buffers { ⌜ (length (now map) ≡ 4096) × (length (now picture) ≡ 4096) ⌝ }
-        ensures { λ r. ⌜ ((left : ℕ) → read-on 0 (now (records .entry)) left (progress (now (self .entry) .place) (now (map .entry)) (now (picture .entry))) ≡ paused r (length (now (records .entry))) left (progress (now (self .exit) .place) (now (map .exit)) (now (picture .exit)))) ⌝ }
+        ensures { λ r. ⌜ Reads-on (now (records .entry)) r
+            (progress (now (self .entry) .place) (now (map .entry)) (now (picture .entry)))
+            (progress (now (self .exit) .place) (now (map .exit)) (now (picture .exit))) ⌝ }
     {
         for (number, bytes) in records.iter().enumerate() {
             self.take(number, bytes, map, picture)?;
@@ -51,7 +52,8 @@ impl Reader {
     ) -> Result<(), ReaderFault>
         requires calls { ⌜ now self .place .calls ≡ 0 ⌝ }
         requires buffers { ⌜ (length (now map) ≡ 4096) × (length (now picture) ≡ 4096) ⌝ }
-        ensures { λ r. ⌜ reading-from (now (job .entry)) (progress (now (self .entry) .place) (now (map .entry)) (now (picture .entry))) ≡ ended r (progress (now (self .exit) .place) (now (map .exit)) (now (picture .exit))) ⌝ }
+        ensures { λ r. ⌜ reading-from (now (job .entry)) (progress (now (self .entry) .place) (now (map .entry)) (now (picture .entry)))
+            ≡ ended r (progress (now (self .exit) .place) (now (map .exit)) (now (picture .exit))) ⌝ }
     {
         let (records, torn) = job.as_chunks::<8>();
         self.take_all(records, map, picture)?;

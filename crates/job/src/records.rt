@@ -1,5 +1,4 @@
 // The records of a job.
-use criteria::Tolerance;
 
 // The criterion that an H asks for.
 #[derive(Clone, Copy)]
@@ -32,7 +31,8 @@ pub(crate) struct Head {
     pub(crate) width: u8,
     pub(crate) height: u8,
     pub(crate) joining: u8,
-    pub(crate) tolerance: Tolerance,
+    pub(crate) shape: Shape,
+    pub(crate) limit: u8,
 }
 
 // A sound record: an H; a P with its map byte and its grey byte; a C with its operation and its size.

@@ -7,7 +7,7 @@ ghost use lib.ListN.{length};
 ghost use Rattle.std.specs.Written.{decimal};
 ghost use Rattle.std.specs.Of.String.{string-bytes};
 ghost use Rattle.std.specs.Vec.{made};
-ghost use Rattle.job.specs.Lines.{newline, fault-text, fault-line, spaced, row-text, rows-text, empty-note, count-text, not-made};
+ghost use Rattle.job.specs.Lines.{Appends, newline, fault-text, fault-line, spaced, row-text, rows-text, empty-note, count-text, not-made};
 ghost use Rattle.job.specs.Texts.{sound-text, fault-ending, job-text};
 use crate::fault::ReaderFault;
 use crate::place::Place;
@@ -77,7 +77,7 @@ fn spaced_field(heap: Global, value: u8) -> Result<String, AllocError>
 
 // Adds values with a space before each.
 fn push_spaced(heap: Global, text: &mut String, values: &[u8]) -> Result<(), AllocError>
-    ensures { λ r. ⌜ made r (λ _. string-bytes (now (text .exit)) ≡ string-bytes (now (text .entry)) ++ spaced (now (values .entry))) ⌝ }
+    ensures { λ r. ⌜ Appends (string-bytes (now (text .entry))) (spaced (now (values .entry))) (string-bytes (now (text .exit))) r ⌝ }
 {
     for value in values {
         let field = spaced_field(heap, *value)?;
@@ -88,7 +88,7 @@ fn push_spaced(heap: Global, text: &mut String, values: &[u8]) -> Result<(), All
 
 // Adds a row of values, parted by one space.
 fn push_fields(heap: Global, text: &mut String, row: &[u8]) -> Result<(), AllocError>
-    ensures { λ r. ⌜ made r (λ _. string-bytes (now (text .exit)) ≡ string-bytes (now (text .entry)) ++ row-text (now (row .entry))) ⌝ }
+    ensures { λ r. ⌜ Appends (string-bytes (now (text .entry))) (row-text (now (row .entry))) (string-bytes (now (text .exit))) r ⌝ }
 {
     let Some((first, others)) = row.split_first() else {
         return Ok(());
@@ -101,7 +101,7 @@ fn push_fields(heap: Global, text: &mut String, row: &[u8]) -> Result<(), AllocE
 
 // Adds a row of values as a line.
 fn push_row(heap: Global, text: &mut String, row: &[u8]) -> Result<(), AllocError>
-    ensures { λ r. ⌜ made r (λ _. string-bytes (now (text .exit)) ≡ string-bytes (now (text .entry)) ++ (row-text (now (row .entry)) ++ newline)) ⌝ }
+    ensures { λ r. ⌜ Appends (string-bytes (now (text .entry))) (row-text (now (row .entry)) ++ newline) (string-bytes (now (text .exit))) r ⌝ }
 {
     push_fields(heap, text, row)?;
     text.push('\n')?;
@@ -117,7 +117,7 @@ fn push_rows(
     picture: &[u8],
 ) -> Result<(), AllocError>
     requires { ⌜ width * height ≤ length (now picture) ⌝ }
-    ensures { λ r. ⌜ made r (λ _. string-bytes (now (text .exit)) ≡ string-bytes (now (text .entry)) ++ rows-text width height (now (picture .entry))) ⌝ }
+    ensures { λ r. ⌜ Appends (string-bytes (now (text .entry))) (rows-text width height (now (picture .entry))) (string-bytes (now (text .exit))) r ⌝ }
 {
     let mut rest = picture;
     for _ in 0..height {
