@@ -87,6 +87,15 @@ def cases():
     yield "turn 91", head(shape="R", tolerance=91), "fault M 3 0 at 0\n"
     yield "the joining before the tolerance", head(joining=7, shape="R", tolerance=91), "fault M 2 7 at 0\n"
 
+    bad = head(2, 2, 4, "R", 5) + pixel(0, 179) + pixel(1, 180) + pixel(2, 255) + pixel(3, 0)
+    yield "a heading of 180", bad, "fault M 5 1 at 4\n"
+    yield "a heading of 180, and calls", bad + call(), "fault M 5 1 at 4\n"
+    yield "a heading of 180, and a bad last P", bad[:-1] + b"\1", "fault J 14 4\n"
+    last = head(1, 1, 8, "R", 90) + pixel(0, 200)
+    yield "a heading of 200 in a tile of one pixel", last, "fault M 5 0 at 1\n"
+    for shape in "ST":
+        job = head(1, 1, 8, shape, 0) + pixel(0, 200, 6)
+        yield f"shape {shape} admits every byte", job, "6\nnote 0 0 0 0\n"
     for shape, tolerance in (("S", 0), ("S", 255), ("T", 255), ("R", 0), ("R", 90)):
         job = head(1, 1, 8, shape, tolerance) + pixels([3])
         yield f"shape {shape} {tolerance}", job, "3\nnote 0 0 0 0\n"

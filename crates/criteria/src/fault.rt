@@ -40,6 +40,14 @@ pub enum MapFault {
     Joining(u8),
     // a tolerance that the criterion does not take
     Tolerance,
+    // a count that is not the tile's: 1 of a map's values, 2 of a sheet's bytes
+    Misfit(u8),
+    // this pixel is the first whose value is not admitted
+    Inadmissible(usize),
+    // scratch shorter than the tile: 1 the marks, 2 the queue
+    Scratch(u8),
+    // the tile has no pixel of this number
+    Pixel(usize),
 }
 
 impl MapFault {
@@ -50,6 +58,10 @@ impl MapFault {
             MapFault::Tile => (1, 0),
             MapFault::Joining(joining) => (2, usize::from(joining)),
             MapFault::Tolerance => (3, 0),
+            MapFault::Misfit(which) => (4, usize::from(which)),
+            MapFault::Inadmissible(pixel) => (5, pixel),
+            MapFault::Scratch(which) => (6, usize::from(which)),
+            MapFault::Pixel(pixel) => (10, pixel),
         };
         Code {
             layer: Layer::Map,

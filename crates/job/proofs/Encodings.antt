@@ -11,11 +11,7 @@ use Rattle.std.specs.declared.option.Option.{Option}
 use Rattle.std.specs.declared.option.Option.the-variants.{Some, None}
 use Rattle.std.specs.declared.result.Result.{Result}
 use Rattle.std.specs.declared.result.Result.the-variants.{Ok, Err}
-use Rattle.criteria.specs.declared.fault.MapFault.{MapFault}
-use Rattle.maps.specs.Checks.{Check, first-fault, answered}
-use Rattle.bench.specs.declared.fault.BenchFault.the-variants.{Map}
-use Rattle.job.specs.declared.fault.ReaderFault.{ReaderFault}
-use Rattle.job.specs.declared.fault.ReaderFault.the-variants.{Bench}
+use Rattle.maps.specs.Checks.{first-fault}
 use Rattle.job.specs.declared.records.Shape.{Shape}
 use Rattle.job.specs.declared.records.Shape.the-variants.{Step, Tone, Turn}
 use Rattle.job.specs.declared.records.Operation.{Operation}
@@ -29,38 +25,14 @@ use Rattle.job.specs.declared.place.State.{State}
 use Rattle.job.specs.declared.place.State.the-variants as state
 use Rattle.job.specs.declared.place.Place.{Place}
 use Rattle.job.specs.Records.{byte, shape-of, operation-of, head-kind, call-kind, kind-of, all-zero, filler-of, pixel-number, head-of, record-of}
-use Rattle.job.specs.Reading.{in-turn, head-checks, from-below, own-checks, record-checks, content-checks, checked, lettered, taken}
+use Rattle.job.specs.Reading.{in-turn, head-checks, own-checks, record-checks, content-checks, checked, lettered, taken}
+use Rattle.job.proofs.Checking.{none≢some, some-same, first-passes, unanswered, passes-here, passes-below}
 use Rattle.job.specs.Encoding.{shape-letter, operation-letter, encoded, Comes, head, pixel, call}
 
 -- a Bool by its two cases, with the equation
 split : {C : Type 0} (b : Bool) → (b ≡ true → C) → (b ≡ false → C) → C
 split true yes-case no-case = yes-case refl
 split false yes-case no-case = no-case refl
-
-none≢some : {A : Type 0} {a : A} → None ≡ Some a → ⊥
-none≢some e = let z : _≡_ {A = ℕ} 0 1 = cc in omega arith
-
-some-same : {A : Type 0} {a b : A} → Some a ≡ Some b → a ≡ b
-some-same e = cc
-
--- the first of the checks passes, and then the others do
-first-passes : {F : Type 0} (b : Bool) (o : Option F) (f : F) → cond b o (Some f) ≡ None → (b ≡ true) × (o ≡ None)
-first-passes true o f e = (refl, e)
-first-passes false o f e = absurd (none≢some (sym e))
-
-unanswered : {V F : Type 0} (o : Option F) (v w : V) → answered o v ≡ Ok w → (o ≡ None) × (v ≡ w)
-unanswered None v w e = (refl, cc)
-unanswered (Some f) v w e = let z : _≡_ {A = ℕ} 0 1 = cc in absurd (omega arith)
-
--- checks find no fault here exactly when they find none below
-passes-here : (n : ℕ) (cs : List (Check MapFault)) → first-fault cs ≡ None → first-fault (from-below n cs) ≡ None
-passes-here n [] e = refl
-passes-here n (c ∷ cs) e = let p = first-passes (c .holds) (first-fault cs) (c .fault) e in rw (p .0) (passes-here n cs (p .1))
-
-passes-below : (n : ℕ) (cs : List (Check MapFault)) → first-fault (from-below n cs) ≡ None → first-fault cs ≡ None
-passes-below n [] e = refl
-passes-below n (c ∷ cs) e =
-    let p = first-passes (c .holds) (first-fault (from-below n cs)) (Bench (Map (c .fault)) n) e in rw (p .0) (passes-below n cs (p .1))
 
 shape-back : (s : Shape) → shape-of (shape-letter s) ≡ Some s
 shape-back Step = refl

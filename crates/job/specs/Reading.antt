@@ -1,10 +1,11 @@
 -- What the reader takes where, and where a job leaves it. Assumes nothing.
 use mathlib.Core.Path.{_≡_}
-use mathlib.Core.Bool.{Bool, true, false, cond}
+use mathlib.Core.Bool.{Bool, true, false, cond, not}
 use mathlib.Core.List.{List, [], _∷_, _++_}
 use Prim.Native.Nat.{ℕ, _+_, _*_, _/_, _%_}
 use lib.Dec.{eqb}
-use lib.ListN.{length, set}
+use lib.ListN.{length, set, take}
+use Rattle.std.specs.Options.{isSome}
 use Rattle.std.specs.Vectors.{chunked}
 use Rattle.std.specs.declared.option.Option.{Option}
 use Rattle.std.specs.declared.option.Option.the-variants.{Some, None}
@@ -12,13 +13,18 @@ use Rattle.std.specs.declared.result.Result.{Result}
 use Rattle.std.specs.declared.result.Result.the-variants.{Ok, Err}
 use Rattle.criteria.specs.declared.fault.MapFault.{MapFault}
 use Rattle.criteria.specs.declared.fault.MapFault.the-variants.{Tolerance}
+use Rattle.criteria.specs.Criteria.{Judgement}
+use Rattle.criteria.specs.Bytes.{by-step, by-tone, by-turn}
 use Rattle.criteria.specs.Tolerances.{accepted}
 use Rattle.maps.specs.Checks.{Check, first-fault, answered}
 use Rattle.maps.specs.Tiles.{tile-checks}
+use Rattle.maps.specs.Admission.{first-not, none-check}
 use Rattle.bench.specs.declared.fault.BenchFault.{BenchFault}
 use Rattle.bench.specs.declared.fault.BenchFault.the-variants.{Map}
 use Rattle.job.specs.declared.fault.ReaderFault.{ReaderFault}
 use Rattle.job.specs.declared.fault.ReaderFault.the-variants.{Torn, Letter, Order, Filler, Bench}
+use Rattle.job.specs.declared.records.Shape.{Shape}
+use Rattle.job.specs.declared.records.Shape.the-variants.{Step, Tone, Turn}
 use Rattle.job.specs.declared.records.Kind.{Kind}
 use Rattle.job.specs.declared.records.Kind.the-variants as kind
 use Rattle.job.specs.declared.records.Head.{Head}
@@ -56,6 +62,10 @@ through-bench (Some f) = Some (Map f)
 abbrev pub with-record : {V : Type 0} → ℕ → Result V BenchFault → Result V (BenchFault × ℕ)
 with-record n (Ok v) = Ok v
 with-record n (Err f) = Err (f, n)
+
+-- an H of which none of these is wrong
+abbrev pub passes : Head → Bool
+passes h = not (isSome (first-fault (head-checks h)))
 
 -- the pixels of the tile that an H names, or the fault of the map layer inside one of the bench layer
 abbrev pub head-answer : Head → Result ℕ BenchFault
@@ -103,19 +113,23 @@ lettered n p (Some k) bs = checked (record-checks n p k bs) k bs
 abbrev pub taken : ℕ → Place → List ℕ → Result Record ReaderFault
 taken n p bs = lettered n p (kind-of bs) bs
 
+-- in place of a head before it is read
+abbrev pub no-head : Head
+no-head = record { width = 0; height = 0; joining = 0; shape = Step; limit = 0 }
+
 -- where the reader starts
 abbrev pub start : Place
-start = record { state = state.Head; width = 0; height = 0; count = 0; next = 0; calls = 0 }
+start = record { state = state.Head; head = no-head; count = 0; next = 0; calls = 0 }
 
 -- where a P leaves the reader: with the last pixel read, calls come next
 abbrev pub next-place : Place → Place
-next-place p = record { state = cond (eqb (p .next + 1) (p .count)) state.Calls state.Pixels; width = p .width; height = p .height; count = p .count; next = p .next + 1; calls = p .calls }
+next-place p = record { state = cond (eqb (p .next + 1) (p .count)) state.Calls state.Pixels; head = p .head; count = p .count; next = p .next + 1; calls = p .calls }
 
 -- a bad record changes nothing, here and below
 abbrev pub place-after : Result Record ReaderFault → Place → Place
-place-after (Ok (sound.Head h)) p = record { state = state.Pixels; width = h .width; height = h .height; count = h .width * h .height; next = 0; calls = 0 }
+place-after (Ok (sound.Head h)) p = record { state = state.Pixels; head = h; count = h .width * h .height; next = 0; calls = 0 }
 place-after (Ok (sound.Pixel v g)) p = next-place p
-place-after (Ok (sound.Call o s)) p = record { state = p .state; width = p .width; height = p .height; count = p .count; next = p .next; calls = p .calls + 1 }
+place-after (Ok (sound.Call o s)) p = record { state = p .state; head = p .head; count = p .count; next = p .next; calls = p .calls + 1 }
 place-after (Err f) p = p
 
 -- the buffer of the map after a record at pixel i
@@ -159,15 +173,48 @@ done state.Calls = true
 abbrev pub at-end : ℕ → ℕ → Place → Option ReaderFault
 at-end n left p = first-fault (record { holds = eqb left 0; fault = Torn n } ∷ record { holds = done (p .state); fault = Order n } ∷ [])
 
+-- the criterion that an H asks for
+abbrev pub judged : Shape → ℕ → Judgement ℕ
+judged Step t = by-step t
+judged Tone t = by-tone t
+judged Turn t = by-turn t
+
+-- the map is laid when its last pixel is read: all its values are admitted
+abbrev pub lay-checks : (ℕ → Bool) → List ℕ → List (Check MapFault)
+lay-checks admits values = none-check (first-not admits values) ∷ []
+
+abbrev pub lay-answer : (ℕ → Bool) → List ℕ → Result (Unit {0}) BenchFault
+lay-answer admits values = answered (through-bench (first-fault (lay-checks admits values))) tt
+
+-- the values that the criterion of an H admits
+abbrev pub head-admits : Head → ℕ → Bool
+head-admits h = judged (h .shape) (h .limit) .admits
+
+-- what is wrong with record n, taken so, once the reader has this
+abbrev pub outcome : ℕ → Result Record ReaderFault → Progress → Option ReaderFault
+outcome n (Ok (sound.Head h)) s = None
+outcome n (Ok (sound.Pixel v g)) s =
+    cond (done (s .place .state)) (first-fault (from-below n (lay-checks (head-admits (s .place .head)) (take (s .place .count) (s .map))))) None
+outcome n (Ok (sound.Call o k)) s = None
+outcome n (Err f) s = Some f
+
+-- what the reader has after record n
+abbrev pub reached : ℕ → Progress → List ℕ → Progress
+reached n s bs = progress-after (taken n (s .place) bs) s
+
+-- what is wrong with record n, if anything
+abbrev pub record-fault : ℕ → Progress → List ℕ → Option ReaderFault
+record-fault n s bs = outcome n (taken n (s .place) bs) (reached n s bs)
+
 -- the first bad record ends the reading, and a sound one leads on
-abbrev pub next-reading : Result Record ReaderFault → Progress → (Progress → Reading) → Reading
-next-reading (Ok r) s onward = onward (progress-after (Ok r) s)
-next-reading (Err f) s onward = record { fault = Some f; left = s }
+abbrev pub next-reading : Option ReaderFault → Progress → (Progress → Reading) → Reading
+next-reading None s onward = onward s
+next-reading (Some f) s onward = record { fault = Some f; left = s }
 
 -- the records from number n on, with so many bytes left over after the last
 abbrev pub read-on : ℕ → List (List ℕ) → ℕ → Progress → Reading
 read-on n [] rest s = record { fault = at-end n rest (s .place); left = s }
-read-on n (bs ∷ more) rest s = next-reading (taken n (s .place) bs) s (read-on (n + 1) more rest)
+read-on n (bs ∷ more) rest s = next-reading (record-fault n s bs) (reached n s bs) (read-on (n + 1) more rest)
 
 -- a reading that ended so, and left the reader with this
 abbrev pub ended : Result (Unit {0}) ReaderFault → Progress → Reading

@@ -17,7 +17,7 @@ fresh = record { place = start; map = replicate 4096 0; picture = replicate 4096
 
 -- a sound job: the rows of the picture and the note, or, with calls in the job, that they were not made
 abbrev pub sound-text : Place → List ℕ → List ℕ
-sound-text p picture = cond (eqb (p .calls) 0) (rows-text (p .width) (p .height) picture ++ empty-note) (count-text (p .calls))
+sound-text p picture = cond (eqb (p .calls) 0) (rows-text (p .head .width) (p .head .height) picture ++ empty-note) (count-text (p .calls))
 
 -- a job with a fault: the calls before it were not made, and the fault ends the text
 abbrev pub fault-ending : ReaderFault → Place → List ℕ

@@ -1,4 +1,5 @@
 // Where the reader is.
+use crate::records::Head;
 
 // What comes next: the head, pixels, or calls.
 #[derive(Clone, Copy)]
@@ -8,12 +9,11 @@ pub(crate) enum State {
     Calls,
 }
 
-// The reader's own numbers: the tile's sides and its count of pixels, the pixel that comes next, and the calls so far.
+// The reader's own numbers: what the head says, the tile's count of pixels, the pixel that comes next, and the calls so far.
 #[derive(Clone, Copy)]
 pub(crate) struct Place {
     pub(crate) state: State,
-    pub(crate) width: u8,
-    pub(crate) height: u8,
+    pub(crate) head: Head,
     pub(crate) count: usize,
     pub(crate) next: usize,
     pub(crate) calls: usize,

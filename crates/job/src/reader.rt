@@ -44,8 +44,13 @@ impl Reader {
         Reader {
             place: Place {
                 state: State::Head,
-                width: 0,
-                height: 0,
+                head: Head {
+                    width: 0,
+                    height: 0,
+                    joining: 0,
+                    shape: Shape::Step,
+                    limit: 0,
+                },
                 count: 0,
                 next: 0,
                 calls: 0,
@@ -71,8 +76,7 @@ impl Reader {
         let count = at(number, head.check())?;
         self.place = Place {
             state: State::Pixels,
-            width: head.width,
-            height: head.height,
+            head,
             count,
             next: 0,
             calls: 0,

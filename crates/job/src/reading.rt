@@ -1,11 +1,15 @@
 // The reading of a whole job.
 ghost use mathlib.Core.Path.{_≡_};
+ghost use Prim.Native.Nat.{_+_, _^_, _<_};
 ghost use lib.ListN.{length};
 ghost use Rattle.maps.specs.Checks.{answered};
-ghost use Rattle.job.specs.Reading.{at-end, progress, ended, Reads-on, reading-from};
+ghost use Rattle.job.specs.Reading.{at-end, progress, record-fault, reached, ended, Reads-on, reading-from};
 use crate::fault::ReaderFault;
+use crate::fault::ReaderFaultFromBench;
+use crate::head::at;
 use crate::place::Place;
 use crate::place::State;
+use crate::records::Record;
 use crate::state::Reader;
 
 impl Place {
@@ -24,6 +28,32 @@ impl Place {
 }
 
 impl Reader {
+    // Takes the next record; with the last pixel the map is laid.
+    fn advance(
+        &mut self,
+        number: usize,
+        bytes: &[u8; 8],
+        map: &mut [u8],
+        picture: &mut [u8],
+    ) -> Result<(), ReaderFault>
+        requires calls { ⌜ now self .place .calls + 1 < 2 ^ 64 ⌝ }
+        requires buffers { ⌜ (length (now map) ≡ 4096) × (length (now picture) ≡ 4096) ⌝ }
+        ensures answer { λ r. ⌜ r ≡ answered (record-fault number (progress (now (self .entry) .place) (now (map .entry)) (now (picture .entry))) (now (bytes .entry))) tt ⌝ }
+        ensures left { λ r. ⌜ progress (now (self .exit) .place) (now (map .exit)) (now (picture .exit))
+            ≡ reached number (progress (now (self .entry) .place) (now (map .entry)) (now (picture .entry))) (now (bytes .entry)) ⌝ }
+    {
+        let taken = self.take(number, bytes, map, picture)?;
+        let place = self.place;
+        match (taken, place.state) {
+            (Record::Pixel(_, _), State::Calls) => {
+                let count = place.count;
+                at(number, place.head.lay(&map[0..count]))?;
+                Ok(())
+            }
+            _ => Ok(()),
+        }
+    }
+
     // Takes records until one is bad.
     fn take_all(
         &mut self,
@@ -38,7 +68,7 @@ impl Reader {
             (progress (now (self .exit) .place) (now (map .exit)) (now (picture .exit))) ⌝ }
     {
         for (number, bytes) in records.iter().enumerate() {
-            self.take(number, bytes, map, picture)?;
+            self.advance(number, bytes, map, picture)?;
         }
         Ok(())
     }

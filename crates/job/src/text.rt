@@ -141,8 +141,8 @@ fn sound_report(heap: Global, reader: Reader, picture: &[u8]) -> Result<String, 
     push_rows(
         heap,
         &mut text,
-        place.width as usize,
-        place.height as usize,
+        place.head.width as usize,
+        place.head.height as usize,
         picture,
     )?;
     text.push_str("note 0 0 0 0\n")?;

@@ -20,3 +20,8 @@ first-fault (c ∷ cs) = cond (c .holds) (first-fault cs) (Some (c .fault))
 abbrev pub answered : {V F : Type 0} → Option F → V → Result V F
 answered None v = Ok v
 answered (Some f) v = Err f
+
+-- what a call leaves: the one where it is accepted, the other where it is refused
+abbrev pub left-by : {A V F : Type 0} → Result V F → A → A → A
+left-by (Ok v) accepted refused = accepted
+left-by (Err f) accepted refused = refused

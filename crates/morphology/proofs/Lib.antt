@@ -1,0 +1,11 @@
+pub mod Bounds
+pub mod Tile
+pub mod Tables
+pub mod Pictures
+pub mod Operators
+pub mod Algebra
+pub mod Mirror
+pub mod Runs
+pub mod Levelling
+pub mod Values
+pub mod Sweep

@@ -1,0 +1,9 @@
+pub mod Bounds
+pub mod Tile
+pub mod Neighbourhoods
+pub mod Tables
+pub mod Pictures
+pub mod Algebra
+pub mod Calls
+pub mod Levels
+pub mod Theorems
