@@ -5,3 +5,4 @@ pub mod Reading
 pub mod Encoding
 pub mod Lines
 pub mod Texts
+pub mod Jobs

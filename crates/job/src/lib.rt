@@ -11,4 +11,5 @@ mod text;
 mod theorems;
 
 pub use text::report;
+pub use theorems::jobs_hold;
 pub use theorems::records_hold;
