@@ -1,1 +1,10 @@
 pub mod Faults
+pub mod Bounds
+pub mod Settings
+pub mod Checks
+pub mod Steps
+pub mod Calls
+pub mod Tallies
+pub mod Laws
+pub mod Residues
+pub mod Notes

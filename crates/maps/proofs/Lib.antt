@@ -1,3 +1,4 @@
 pub mod Firsts
 pub mod Nearness
 pub mod Figures
+pub mod Answering

@@ -1,0 +1,21 @@
+use mathlib.Core.Path.{_≡_, sym, ap, _∙_}
+use mathlib.Core.List.{_++_, _∷_, []}
+use native.Mathlib.Omega.{arith}
+use Prim.Native.Nat.{_<_, _≤_}
+use lib.ListN.{length, take, replicate}
+use Rattle.std.proofs.shelf.Lists.{take-more-set, replicate-more, take-all}
+use Rattle.bench.proofs.guards.fill.Needs as need
+
+pub loop-element-again : need.loop-element-again
+loop-element-again g c =
+    let i = c .loop-element .element-index in
+    let v = c .args .value in
+    let inside : i < length (c .loop-element .elements) = omega arith in
+    take-more-set (c .loop-element .elements) i v inside ∙ ap (λ xs. xs ++ (v ∷ [])) (c .loop-element .inv) ∙ replicate-more i v
+
+pub returns : need.returns
+returns g c =
+    let i = c .loop-element .element-index in
+    let past : length (c .loop-element .elements) ≤ i = omega arith in
+    let full : i ≡ length (c .args .elements .now) = omega arith in
+    sym (take-all i (c .loop-element .elements) past) ∙ c .loop-element .inv ∙ ap (λ n. replicate n (c .args .value)) full

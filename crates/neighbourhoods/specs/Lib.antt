@@ -1,0 +1,6 @@
+pub mod Zeros
+pub mod Marks
+pub mod Steps
+pub mod Listings
+pub mod Finds
+pub mod Floods
