@@ -6,15 +6,15 @@ ghost use Rattle.bench.specs.Calls.{Filtered, Cleared};
 use crate::bench::Bench;
 use crate::checks::check_handed;
 use crate::fault::BenchFault;
-use crate::guards::Marks;
-use crate::guards::Queue;
-use crate::guards::fill;
 use crate::scratch::Room;
 use crate::scratch::Scratch;
 use crate::step::operate;
 use criteria::Criterion;
 use maps::Map;
 use morphology::Operation;
+use neighbourhoods::Marks;
+use neighbourhoods::Queue;
+use neighbourhoods::fill;
 use scales::Scale;
 
 // Does the call or refuses it, and leaves the scratch as it comes.

@@ -4,7 +4,6 @@ mod calls;
 mod checks;
 mod fault;
 mod gaps;
-mod guards;
 mod levels;
 mod note;
 mod scratch;

@@ -5,3 +5,6 @@ pub mod Rooms
 pub mod Spreading
 pub mod Visiting
 pub mod Turning
+pub mod Drawing
+pub mod Showing
+pub mod Worked

@@ -5,7 +5,11 @@ use mathlib.Core.List.{List, [], _∷_, _++_, map}
 use Prim.Native.Nat.{ℕ, zero, suc, _<_, _≤_}
 use native.Mathlib.Omega.{arith}
 use lib.ListN.{length, getD, take}
+use Rattle.std.proofs.shelf.Lists.{length-take-le}
+use Rattle.std.proofs.shelf.Tests.{cases-eq}
 use Rattle.morphology.specs.Pictures.{At, here, later}
+use Rattle.morphology.proofs.Pictures.{at-one, at-bound}
+use Rattle.neighbourhoods.specs.Listings.{In}
 
 module _ {A : Type 0} where
   -- in the head of a list
@@ -51,3 +55,24 @@ module _ {A B : Type 0} (F : A → B) where
   at-mapped [] a = elim a [ ]
   at-mapped (x ∷ xs) here = (x, here, refl)
   at-mapped (x ∷ xs) (later a) = let r = at-mapped xs a in (r .0, later (r .1), r .2)
+
+-- the pixels at the head of a queue
+pub in-head : (queue : List ℕ) (count i : ℕ) {p : ℕ} → i < count → count ≤ length queue → getD queue i 0 ≡ p → In (take count queue) p
+in-head queue count i early within e = (i, subst (At (take count queue) i) e (at-head queue count i 0 early within))
+
+pub not-in-head : (queue : List ℕ) (count : ℕ) {p : ℕ} → count ≤ length queue → ((i : ℕ) → i < count → getD queue i 0 ≡ p → ⊥) → In (take count queue) p → ⊥
+not-in-head queue count within none (i, a) =
+    let early : i < count = subst (λ n. i < n) (length-take-le count queue within) (at-bound a) in
+    none i early (at-one (at-head queue count i 0 early within) a)
+
+-- whether a pixel stands in a list
+pub in-or-not : (list : List ℕ) (p : ℕ) → In list p ⊎ (In list p → ⊥)
+in-or-not [] p = inr (λ i. elim (i .1) [ ])
+in-or-not (x ∷ xs) p = elim (cases-eq p x) [
+  | inl e ↦ inl (0, subst (At (x ∷ xs) 0) (sym e) here)
+  | inr ne ↦ elim (in-or-not xs p) [ inl i ↦ inl (suc (i .0), later (i .1)) | inr out ↦ inr (λ i. outside (i .1) ne out refl) ]
+]
+  where
+    outside : {y : ℕ} {i : ℕ} → At (x ∷ xs) i y → (p ≡ x → ⊥) → (In xs p → ⊥) → p ≡ y → ⊥
+    outside here ne out e = ne e
+    outside (later {i = k} a) ne out e = out (k, subst (At xs k) (sym e) a)

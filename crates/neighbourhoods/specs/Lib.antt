@@ -4,3 +4,5 @@ pub mod Steps
 pub mod Listings
 pub mod Finds
 pub mod Floods
+pub mod Sheets
+pub mod Examples

@@ -3,9 +3,12 @@ ghost use mathlib.Core.Path.{_≡_};
 ghost use mathlib.Core.List.{[], _∷_};
 ghost use Rattle.maps.specs.Checks.{first-fault, answered};
 ghost use Rattle.neighbourhoods.specs.Floods.{pixel-check, scratch-checks, flood-fault};
+ghost use Rattle.neighbourhoods.specs.Sheets.{reach-answer};
 use crate::marks::capacity;
+use criteria::Criterion;
 use criteria::MapFault;
 use maps::Map;
+use maps::check_admitted;
 
 // Refuses a number that no pixel of the map has.
 pub(crate) fn check_pixel<V>(map: &Map<V>, pixel: usize) -> Result<(), MapFault>
@@ -42,4 +45,23 @@ pub(crate) fn check_flood<V>(
 {
     check_pixel(map, z)?;
     check_scratch(map, marks, queue)
+}
+
+// Refuses a reach call that lacks something, or whose map has a value that is not admitted.
+pub(crate) fn check_reach<C: Criterion>(
+    criterion: &C,
+    map: &Map<C::Value>,
+    pixel: usize,
+    sheet: &[u8],
+    marks: &[u8],
+    queue: &[u32],
+) -> Result<(), MapFault>
+    ensures { λ r. ⌜ r ≡ reach-answer (judgement (now (criterion .entry))) (now (map .entry)) pixel (now (sheet .entry)) (now (marks .entry)) (now (queue .entry)) ⌝ }
+{
+    check_pixel(map, pixel)?;
+    if sheet.len() != map.pixels() {
+        return Err(MapFault::Misfit(2));
+    }
+    check_scratch(map, marks, queue)?;
+    check_admitted(criterion, map)
 }

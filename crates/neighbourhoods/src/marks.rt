@@ -11,7 +11,7 @@ pub struct Marks<'a>(pub &'a mut [u8]);
 
 impl Drop for Marks<'_> {
     fn drop(self)
-        ensures { λ _. ⌜ now (self .exit .0) ≡ zeros (length (now (self .entry .0))) ⌝ }
+        ensures { λ _. ⌜ now (self .exit .0) ≡ zeros (length (now (self .exit .0))) ⌝ }
     {
         clear_all(self.0);
         let Marks(_) = self;

@@ -9,7 +9,7 @@ pub struct Queue<'a>(pub &'a mut [u32]);
 
 impl Drop for Queue<'_> {
     fn drop(self)
-        ensures { λ _. ⌜ now (self .exit .0) ≡ zeros (length (now (self .entry .0))) ⌝ }
+        ensures { λ _. ⌜ now (self .exit .0) ≡ zeros (length (now (self .exit .0))) ⌝ }
     {
         fill(self.0, 0);
         let Queue(_) = self;
