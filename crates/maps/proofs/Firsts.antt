@@ -1,5 +1,5 @@
 -- The search for the first value that is not admitted. Assumes nothing.
-use mathlib.Core.Path.{_≡_, refl, sym, ap, subst, _∙_}
+use mathlib.Core.Path.{_≡_, refl, ap, subst, _∙_}
 use mathlib.Core.Logic.{inl, inr}
 use mathlib.Core.List.{List, [], _∷_}
 use mathlib.Core.Bool.{Bool, true, false, cond}
@@ -9,7 +9,7 @@ use lib.ListN.{length}
 use Rattle.std.specs.Options.{mapped}
 use Rattle.std.specs.declared.option.Option.{Option}
 use Rattle.std.specs.declared.option.Option.the-variants.{Some, None}
-use Rattle.std.proofs.shelf.Tests.{both-ways, cases-eq, cases-order, cases-bool}
+use Rattle.std.proofs.shelf.Tests.{both-ways, cases-eq, cases-order}
 use Rattle.morphology.specs.Pictures.{At, here, later}
 use Rattle.morphology.proofs.Pictures.{at-one, at-bound}
 use Rattle.maps.specs.Admission.{First-not, all-admitted, first-at, first-not}

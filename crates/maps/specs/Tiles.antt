@@ -20,6 +20,7 @@ is-tile w h = is-side w && (is-side h && leb (w * h) 4096)
 abbrev pub is-joining : ℕ → Bool
 is-joining j = eqb j 4 || eqb j 8
 
+-- the checks of a tile and its joining
 abbrev pub tile-checks : ℕ → ℕ → ℕ → List (Check MapFault)
 tile-checks w h j = record { holds = is-tile w h; fault = Tile } ∷ record { holds = is-joining j; fault = Joining j } ∷ []
 

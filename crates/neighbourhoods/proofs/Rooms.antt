@@ -1,17 +1,15 @@
 -- Room in the queue: each pixel that is queued is one free pixel less. Assumes nothing.
-use mathlib.Core.Path.{_≡_, refl, sym, ap, ap₂, subst, _∙_}
+use mathlib.Core.Path.{_≡_, refl, sym, ap, ap₂, subst}
 use mathlib.Core.Logic.{_≢_, inl, inr}
-use mathlib.Core.List.{List, [], _∷_}
+use mathlib.Core.List.{List}
 use mathlib.Core.Bool.{Bool, true, false, cond, _&&_}
 use Prim.Native.Nat.{ℕ, zero, suc, _+_, _<_, _≤_}
 use native.Mathlib.Omega.{arith}
-use lib.ListN.{length, set, length-set}
-use Rattle.std.specs.declared.option.Option.{Option}
-use Rattle.std.specs.declared.option.Option.the-variants.{Some, None}
+use lib.ListN.{length, length-set}
 use Rattle.std.proofs.shelf.Tests.{cases-eq, and-parts}
-use Rattle.morphology.specs.Pictures.{At, here, later}
+use Rattle.morphology.specs.Pictures.{here}
 use Rattle.neighbourhoods.specs.Marks.{served, free, marked}
-use Rattle.neighbourhoods.specs.Finds.{Finds, taken-in, visited, visit-each, count-below, Room}
+use Rattle.neighbourhoods.specs.Finds.{Finds, taken-in, visited, count-below, Room}
 use Rattle.neighbourhoods.proofs.Marking.{marked-length, marked-here, marked-elsewhere}
 
 at-most-one : (b : Bool) → cond b 1 0 ≤ 1

@@ -1,10 +1,10 @@
 -- Neighbourhoods drawn on a sheet from what floods list. Assumes nothing.
-use mathlib.Core.Path.{_≡_, sym, ap, subst, _∙_}
-use mathlib.Core.Logic.{_⊎_, inl, inr}
+use mathlib.Core.Path.{_≡_, sym, subst}
+use mathlib.Core.Logic.{inl, inr}
 use mathlib.Core.List.{List}
 use Prim.Native.Nat.{ℕ, _+_, _<_, _≤_}
 use native.Mathlib.Omega.{arith}
-use lib.ListN.{length, getD, take}
+use lib.ListN.{getD, take}
 use Rattle.std.proofs.shelf.Tests.{cases-eq}
 use Rattle.morphology.specs.Neighbourhoods.{Ground, pixels, Weak, Symmetric}
 use Rattle.morphology.specs.Tables.{weak, symmetric}

@@ -1,11 +1,11 @@
 -- A flood under way: what it keeps, and what it has found in the end. Assumes nothing.
 use mathlib.Core.Path.{_≡_, refl, sym, ap, subst, _∙_}
 use mathlib.Core.Logic.{inl, inr}
-use mathlib.Core.List.{List, [], _∷_, _++_, map}
+use mathlib.Core.List.{List, [], _∷_, _++_}
 use mathlib.Core.Bool.{Bool, true, false, cond, _&&_}
 use Prim.Native.Nat.{ℕ, suc, _+_, _<_, _≤_}
 use native.Mathlib.Omega.{arith}
-use lib.ListN.{length, getD, set, take, drop}
+use lib.ListN.{length, drop}
 use Rattle.std.specs.declared.option.Option.{Option}
 use Rattle.std.specs.declared.option.Option.the-variants.{Some, None}
 use Rattle.std.proofs.shelf.Lists.{take-more-set, length-take-le, drop-set-lt, drop-drop}
@@ -18,8 +18,8 @@ use Rattle.morphology.proofs.Tables.{weak-inside}
 use Rattle.neighbourhoods.specs.Marks.{served, free, marked, Clear}
 use Rattle.neighbourhoods.specs.Steps.{steps-of, place-of, led, neighbours, Leads}
 use Rattle.neighbourhoods.specs.Listings.{In, Lists}
-use Rattle.neighbourhoods.specs.Finds.{Finds, found, taken-in, visited, visit-each, Room, unmark-all}
-use Rattle.neighbourhoods.specs.Floods.{among-free, Flooded, Spread-out}
+use Rattle.neighbourhoods.specs.Finds.{Finds, found-in, taken-in, visited, visit-each, Room, unmark-all}
+use Rattle.neighbourhoods.specs.Floods.{among-free, Spread-out}
 use Rattle.neighbourhoods.proofs.Listing.{at-head, at-before, at-last, at-pushed, at-map, at-mapped}
 use Rattle.neighbourhoods.proofs.Stepping.{steps-lead}
 use Rattle.neighbourhoods.proofs.Marking.{mark-all, mark-all-length, mark-all-push, Fresh, none, fresh-push, fresh-once, free-at-first, marked-since, all-back}
@@ -44,26 +44,26 @@ module _ (g : Ground) (z : ℕ) (m queue : List ℕ) where
     pub order : done ≤ f .count
     pub room : Room (pixels g) f
     pub rest : drop (f .count) (f .queue) ≡ drop (f .count) queue
-    pub marks-are : f .marks ≡ mark-all m (found f)
-    pub fresh : Fresh m (found f)
-    pub sound : {i p : ℕ} → At (found f) i p → Weak (among-free m g) z p
-    pub closed : {i p q : ℕ} → i < done → At (found f) i p → Joined (g .width) (g .joining) p q → q < pixels g →
-        among-free m g .near z q ≡ true → In (found f) q
+    pub marks-are : f .marks ≡ mark-all m (found-in f)
+    pub fresh : Fresh m (found-in f)
+    pub sound : {i p : ℕ} → At (found-in f) i p → Weak (among-free m g) z p
+    pub closed : {i p q : ℕ} → i < done → At (found-in f) i p → Joined (g .width) (g .joining) p q → q < pixels g →
+        among-free m g .near z q ≡ true → In (found-in f) q
 
   module _ {done : ℕ} {f : Finds} (s : Spread done f) where
-    found-length : length (found f) ≡ f .count
+    found-length : length (found-in f) ≡ f .count
     found-length = length-take-le (f .count) (f .queue) (let r = s .room .free-left in let k = s .room .queue-serves in omega arith)
 
-    free-now : (q : ℕ) → free (f .marks) q ≡ true → free (mark-all m (found f)) q ≡ true
+    free-now : (q : ℕ) → free (f .marks) q ≡ true → free (mark-all m (found-in f)) q ≡ true
     free-now q h = subst (λ x. free x q ≡ true) (s .marks-are) h
 
     module _ (q : ℕ) (inside : q < pixels g) where
-      push : free (f .marks) q ≡ true → found (taken-in q f) ≡ found f ++ q ∷ []
+      push : free (f .marks) q ≡ true → found-in (taken-in q f) ≡ found-in f ++ q ∷ []
       push h = take-more-set (f .queue) (f .count) q (room-left (s .room) q inside h)
 
       served-at-first : q < served (length m)
       served-at-first =
-          let same : length (f .marks) ≡ length m = ap length (s .marks-are) ∙ mark-all-length (found f) m in
+          let same : length (f .marks) ≡ length m = ap length (s .marks-are) ∙ mark-all-length (found-in f) m in
           subst (λ x. q < served x) same (let k = s .room .marks-serve in omega arith)
 
       -- one more pixel of the neighbourhood is taken in
@@ -75,29 +75,29 @@ module _ (g : Ground) (z : ℕ) (m queue : List ℕ) where
             room = room-taken (s .room) q inside h;
             rest = drop-set-lt (f .count + 1) (f .queue) (f .count) q (omega arith)
                 ∙ sym (drop-drop 1 (f .count) (f .queue)) ∙ ap (drop 1) (s .rest) ∙ drop-drop 1 (f .count) queue;
-            marks-are = ap (λ x. marked x q) (s .marks-are) ∙ sym (mark-all-push (found f) m q) ∙ ap (mark-all m) (sym e);
+            marks-are = ap (λ x. marked x q) (s .marks-are) ∙ sym (mark-all-push (found-in f) m q) ∙ ap (mark-all m) (sym e);
             fresh = subst (Fresh m) (sym e) (fresh-push q (s .fresh) served-at-first (free-now q h));
-            sound = λ {i} {p} a. elim (at-pushed (found f) (subst (λ xs. At xs i p) e a)) [
+            sound = λ {i} {p} a. elim (at-pushed (found-in f) (subst (λ xs. At xs i p) e a)) [
               | inl b ↦ s .sound b
               | inr last ↦ subst (Weak (among-free m g) z) (sym (last .1)) chain
             ];
-            closed = λ {i} {p} {q = u} early a j in-tile near. elim (at-pushed (found f) (subst (λ xs. At xs i p) e a)) [
+            closed = λ {i} {p} {q = u} early a j in-tile near. elim (at-pushed (found-in f) (subst (λ xs. At xs i p) e a)) [
               | inl b ↦ let r = s .closed early b j in-tile near in (r .0, subst (λ xs. At xs (r .0) u) (sym e) (at-before q (r .1)))
               | inr last ↦ let k = s .order in absurd (omega (arith, last .0, found-length))
             ];
           }
 
       module _ (near : Bool) where
-        keeps-by : (b : Bool) → (free (f .marks) q && near) ≡ b → {i p : ℕ} → At (found f) i p → At (found (cond b (taken-in q f) f)) i p
+        keeps-by : (b : Bool) → (free (f .marks) q && near) ≡ b → {i p : ℕ} → At (found-in f) i p → At (found-in (cond b (taken-in q f) f)) i p
         keeps-by true e {i} {p} a = subst (λ xs. At xs i p) (sym (push (and-parts (free (f .marks) q) near e .0))) (at-before q a)
         keeps-by false e a = a
 
         -- what was found stays where it is
-        visit-keeps : {i p : ℕ} → At (found f) i p → At (found (visited near q f)) i p
+        visit-keeps : {i p : ℕ} → At (found-in f) i p → At (found-in (visited near q f)) i p
         visit-keeps a = keeps-by (free (f .marks) q && near) refl a
 
       near-now : free (f .marks) q ≡ true → g .near z q ≡ true → among-free m g .near z q ≡ true
-      near-now h near = and-from (g .near z q) (free m q) near (free-at-first (found f) m q (free-now q h))
+      near-now h near = and-from (g .near z q) (free m q) near (free-at-first (found-in f) m q (free-now q h))
 
       spread-by : (among-free m g .near z q ≡ true → Weak (among-free m g) z q) →
           (b : Bool) → (free (f .marks) q && g .near z q) ≡ b → Spread done (cond b (taken-in q f) f)
@@ -107,13 +107,13 @@ module _ (g : Ground) (z : ℕ) (m queue : List ℕ) where
       spread-by chain false e = s
 
       finds-by : among-free m g .near z q ≡ true →
-          (b : Bool) → (free (f .marks) q && g .near z q) ≡ b → In (found (cond b (taken-in q f) f)) q
+          (b : Bool) → (free (f .marks) q && g .near z q) ≡ b → In (found-in (cond b (taken-in q f) f)) q
       finds-by near true e =
-          (length (found f), subst (λ xs. At xs (length (found f)) q) (sym (push (and-parts (free (f .marks) q) (g .near z q) e .0))) (at-last (found f) q))
+          (length (found-in f), subst (λ xs. At xs (length (found-in f)) q) (sym (push (and-parts (free (f .marks) q) (g .near z q) e .0))) (at-last (found-in f) q))
       finds-by near false e =
           let parts = and-parts (g .near z q) (free m q) near in
           elim (and-cases (free (f .marks) q) (g .near z q) e) [
-            | inl old ↦ marked-since (found f) m q (parts .1) (subst (λ x. free x q ≡ false) (s .marks-are) old)
+            | inl old ↦ marked-since (found-in f) m q (parts .1) (subst (λ x. free x q ≡ false) (s .marks-are) old)
             | inr far ↦ absurd (both-ways (g .near z q) far (parts .0))
           ]
 
@@ -122,14 +122,14 @@ module _ (g : Ground) (z : ℕ) (m queue : List ℕ) where
       visit-spread chain = spread-by chain (free (f .marks) q && g .near z q) refl
 
       -- a pixel that is near and was free at first is found once it is visited
-      visit-finds : among-free m g .near z q ≡ true → In (found (visited (g .near z q) q f)) q
+      visit-finds : among-free m g .near z q ≡ true → In (found-in (visited (g .near z q) q f)) q
       visit-finds near = finds-by near (free (f .marks) q && g .near z q) refl
 
   -- after visits from one pixel
   record After (done : ℕ) (f : Finds) (ps : List (Option ℕ)) (f′ : Finds) : Type 0 where
     spread : Spread done f′
-    keeps : {i p : ℕ} → At (found f) i p → At (found f′) i p
-    finds : {i q : ℕ} → At ps i (Some q) → among-free m g .near z q ≡ true → In (found f′) q
+    keeps : {i p : ℕ} → At (found-in f) i p → At (found-in f′) i p
+    finds : {i q : ℕ} → At ps i (Some q) → among-free m g .near z q ≡ true → In (found-in f′) q
 
   -- the pixels to visit lie in the tile, and a chain leads to those that are near
   Reachable : List (Option ℕ) → Type 0
@@ -179,12 +179,12 @@ module _ (g : Ground) (z : ℕ) (m queue : List ℕ) where
         let l = leads-at a in
         (laws .inside l, λ near. next chain (laws .sound l) (laws .inside l) near)
 
-  keeps-all : {done p : ℕ} {f : Finds} → Spread done f → At (found f) done p →
-      {i u : ℕ} → At (found f) i u → At (found (visit-each (g .near z) (around p) f)) i u
+  keeps-all : {done p : ℕ} {f : Finds} → Spread done f → At (found-in f) done p →
+      {i u : ℕ} → At (found-in f) i u → At (found-in (visit-each (g .near z) (around p) f)) i u
   keeps-all {p = p} s a b = let chain = s .sound a in visits (around p) (reachable p (weak-inside chain) chain) s .keeps b
 
   -- the neighbours of one pixel more are visited
-  pixel-done : {done p : ℕ} {f : Finds} → Spread done f → At (found f) done p → Spread (done + 1) (visit-each (g .near z) (around p) f)
+  pixel-done : {done p : ℕ} {f : Finds} → Spread done f → At (found-in f) done p → Spread (done + 1) (visit-each (g .near z) (around p) f)
   pixel-done {done} {p} {f} s a =
       let chain = s .sound a in
       let inside = weak-inside chain in
@@ -199,7 +199,7 @@ module _ (g : Ground) (z : ℕ) (m queue : List ℕ) where
         sound = t .sound;
         closed = λ {i} {p = u} {q} early b j in-tile near. elim (cases-eq i done) [
           | inl e ↦
-              let same : u ≡ p = at-one (subst (λ k. At (found (visit-each (g .near z) (around p) f)) k u) e b) (r .keeps a) in
+              let same : u ≡ p = at-one (subst (λ k. At (found-in (visit-each (g .near z) (around p) f)) k u) e b) (r .keeps a) in
               let l = steps-lead (g .width) (g .height) (g .joining) p inside .complete in-tile (subst (λ x. Joined (g .width) (g .joining) x q) same j) in
               r .finds (at-leads p inside (l .1)) near
           | inr ne ↦ t .closed (omega arith) b j in-tile near
@@ -225,7 +225,7 @@ module _ (g : Ground) (z : ℕ) (m queue : List ℕ) where
   -- a flood in its loop: where its start is near and free, it is found
   pub record Flooding (done : ℕ) (f : Finds) : Type 0 where
     pub spread : Spread done f
-    pub start : among-free m g .near z z ≡ true → In (found f) z
+    pub start : among-free m g .near z z ≡ true → In (found-in f) z
 
   -- the first visit is that of the start
   pub begun : z < pixels g → pixels g ≤ served (length m) → pixels g ≤ length queue →
@@ -236,7 +236,7 @@ module _ (g : Ground) (z : ℕ) (m queue : List ℕ) where
       record { spread = visit-spread s z inside (λ near. first inside near); start = visit-finds s z inside }
 
   -- one turn of the loop
-  pub gone-on : {done p : ℕ} {f : Finds} → Flooding done f → At (found f) done p →
+  pub gone-on : {done p : ℕ} {f : Finds} → Flooding done f → At (found-in f) done p →
       Flooding (done + 1) (visit-each (g .near z) (neighbours (g .width) (g .height) (g .joining) p) f)
   gone-on {done} {p} {f} s a = record {
     spread = pixel-done (s .spread) a;
@@ -245,14 +245,14 @@ module _ (g : Ground) (z : ℕ) (m queue : List ℕ) where
 
   module _ {done : ℕ} {f : Finds} (s : Flooding done f) (all : f .count ≤ done) where
     -- each chain stays within what is found
-    reached : {p : ℕ} → Weak (among-free m g) z p → In (found f) p
+    reached : {p : ℕ} → Weak (among-free m g) z p → In (found-in f) p
     reached (first in-tile near) = s .start near
     reached (next w j in-tile near) =
         let k = reached w in
         let early = at-bound (k .1) in
         s .spread .closed (omega (arith, found-length (s .spread))) (k .1) j in-tile near
 
-    lists-free : Lists (Weak (among-free m g) z) (found f)
+    lists-free : Lists (Weak (among-free m g) z) (found-in f)
     lists-free = record { sound = s .spread .sound; complete = reached; once = fresh-once (s .spread .fresh) }
 
     queue-long : f .count ≤ length (f .queue)
@@ -270,5 +270,5 @@ module _ (g : Ground) (z : ℕ) (m queue : List ℕ) where
           let inside = weak-inside (s .spread .sound (at-head (f .queue) (f .count) i 0 early queue-long)) in
           let serves = s .spread .room .marks-serve in
           omega arith;
-      marks-back = ap (λ x. unmark-all x (found f)) (s .spread .marks-are) ∙ all-back (s .spread .fresh);
+      marks-back = ap (λ x. unmark-all x (found-in f)) (s .spread .marks-are) ∙ all-back (s .spread .fresh);
     }

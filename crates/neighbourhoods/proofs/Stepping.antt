@@ -1,9 +1,8 @@
 -- The steps of a joining lead to the joined pixels. Assumes nothing.
 use mathlib.Core.Path.{_≡_, refl, sym, ap, ap₂, subst, _∙_}
 use mathlib.Core.Logic.{inl, inr}
-use mathlib.Core.List.{List}
 use mathlib.Core.Bool.{Bool, true, false, cond}
-use Prim.Native.Nat.{ℕ, suc, _+_, _-_, _*_, _/_, _%_, _<_, _≤_}
+use Prim.Native.Nat.{ℕ, _+_, _-_, _*_, _<_, _≤_}
 use native.Mathlib.Nat.{zero-mul, mul-comm}
 use native.Mathlib.Omega.{arith}
 use lib.Dec.{eqb, ltb}
@@ -20,7 +19,7 @@ use Rattle.neighbourhoods.proofs.Listing.{at-take}
 use Rattle.neighbourhoods.specs.declared.steps.Shift.{Shift}
 use Rattle.neighbourhoods.specs.declared.steps.Shift.the-variants.{Back, Stay, On}
 use Rattle.neighbourhoods.specs.declared.steps.Step.{Step}
-use Rattle.neighbourhoods.specs.Steps.{shifted, step, all-steps, steps-of, place-of, pixel-in, led, Leads, Laws-of-steps}
+use Rattle.neighbourhoods.specs.Steps.{shifted, by-shifts, all-steps, pixel-in, Leads, Laws-of-steps}
 
 -- a shift leads from a to b
 data Moved : Shift → ℕ → ℕ → Type 0 where
@@ -107,7 +106,7 @@ number Stay Stay = 8
 
 -- the list of steps
 module _ (joining : ℕ) where
-  listed-by : {r c : Shift} (b : Bool) → eqb joining 8 ≡ b → Kind joining r c → At (cond b all-steps (take 4 all-steps)) (number r c) (step r c)
+  listed-by : {r c : Shift} (b : Bool) → eqb joining 8 ≡ b → Kind joining r c → At (cond b all-steps (take 4 all-steps)) (number r c) (by-shifts r c)
   unfolding number
   listed-by true e (across turning-back) = later (later here)
   listed-by true e (across turning-on) = later (later (later here))
@@ -218,7 +217,7 @@ module _ (w h joining p : ℕ) (in-tile : p < w * h) where
   leads : {r c : Shift} {q : ℕ} → q < w * h → Kind joining r c → Moved r (row w p) (row w q) → Moved c (column w p) (column w q) →
       Leads w h joining p (number r c) q
   leads {r} {c} {q} q-in k m n = record {
-    by = step r c;
+    by = by-shifts r c;
     listed = listed-by joining (eqb joining 8) refl k;
     there =
         ap₂ (pixel-in w) (leads-to h m (row-inside w h q q-in)) (leads-to w n (column-inside w h q q-in))

@@ -1,7 +1,7 @@
 -- The loop of a flood, with a map and a criterion's judgement. Assumes nothing.
 use mathlib.Core.Path.{_≡_, sym, ap, subst, _∙_}
 use mathlib.Core.List.{List}
-use Prim.Native.Nat.{ℕ, _+_, _*_, _<_, _≤_}
+use Prim.Native.Nat.{ℕ, _+_, _<_, _≤_}
 use native.Mathlib.Omega.{arith}
 use denote.Ref.{now}
 use lib.ListN.{length, getD}
@@ -14,7 +14,7 @@ use Rattle.maps.specs.Grounds.{near-at, ground}
 use Rattle.maps.proofs.Nearness.{near-by, near-is}
 use Rattle.neighbourhoods.specs.Marks.{served}
 use Rattle.neighbourhoods.specs.Steps.{neighbours}
-use Rattle.neighbourhoods.specs.Finds.{Finds, found, visited, expanded, near-centre, Room}
+use Rattle.neighbourhoods.specs.Finds.{Finds, visited, expanded, near-centre, Room}
 use Rattle.neighbourhoods.specs.Floods.{Spread-out}
 use Rattle.neighbourhoods.proofs.Listing.{at-head}
 use Rattle.neighbourhoods.proofs.Visiting.{visit-each-same}

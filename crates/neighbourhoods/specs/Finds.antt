@@ -3,7 +3,7 @@ use mathlib.Core.List.{List, [], _∷_}
 use mathlib.Core.Bool.{Bool, cond, _&&_}
 use Prim.Native.Nat.{ℕ, zero, suc, _+_, _≤_}
 use denote.Ref.{RefT, now}
-use lib.ListN.{length, set, take}
+use lib.ListN.{length, getD, set, take}
 use Rattle.std.specs.declared.option.Option.{Option}
 use Rattle.std.specs.declared.option.Option.the-variants.{Some, None}
 use Rattle.criteria.specs.Criteria.{Judgement}
@@ -18,12 +18,13 @@ pub record Finds : Type 0 where
   pub queue : List ℕ
   pub count : ℕ
 
+-- the same from what code holds
 abbrev pub finds : RefT (List ℕ) → RefT (List ℕ) → ℕ → Finds
 finds marks queue count = record { marks = now marks; queue = now queue; count = count }
 
 -- the pixels found so far
-abbrev pub found : Finds → List ℕ
-found f = take (f .count) (f .queue)
+abbrev pub found-in : Finds → List ℕ
+found-in f = take (f .count) (f .queue)
 
 -- a pixel is marked and queued
 abbrev pub taken-in : ℕ → Finds → Finds
@@ -46,6 +47,10 @@ near-centre j m centre p = value-passes (now (m .values)) p (j .near centre)
 -- the visits of all neighbours of a pixel
 abbrev pub expanded : {V : Type 0} → Judgement V → Map V → V → ℕ → Finds → Finds
 expanded j m centre p f = visit-each (near-centre j m centre) (neighbours (m .width) (m .height) (m .joining) p) f
+
+-- the same for the pixel at this place in the queue
+abbrev pub expanded-at : {V : Type 0} → Judgement V → Map V → V → ℕ → Finds → Finds
+expanded-at j m centre place f = expanded j m centre (getD (f .queue) place 0) f
 
 -- how many numbers below n pass the test
 abbrev pub count-below : ℕ → (ℕ → Bool) → ℕ

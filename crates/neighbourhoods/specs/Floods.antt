@@ -1,8 +1,9 @@
 -- What a flood answers and leaves. Assumes nothing.
 use mathlib.Core.Path.{_≡_}
 use mathlib.Core.List.{List, [], _∷_}
-use mathlib.Core.Bool.{Bool, _&&_}
+use mathlib.Core.Bool.{_&&_}
 use Prim.Native.Nat.{ℕ, _<_, _≤_}
+use denote.Ref.{RefT, now}
 use lib.Dec.{ltb, leb}
 use lib.ListN.{length, getD, take, drop}
 use Rattle.std.specs.declared.option.Option.{Option}
@@ -16,7 +17,7 @@ use Rattle.maps.specs.Windows.{pixels-of}
 use Rattle.morphology.specs.Neighbourhoods.{Ground, pixels, Weak}
 use Rattle.neighbourhoods.specs.Marks.{served, free, Clear}
 use Rattle.neighbourhoods.specs.Listings.{Lists}
-use Rattle.neighbourhoods.specs.Finds.{Finds, found, unmark-all}
+use Rattle.neighbourhoods.specs.Finds.{Finds, found-in, unmark-all}
 
 -- the pixel is one of the map's
 abbrev pub pixel-check : {V : Type 0} → Map V → ℕ → Check MapFault
@@ -29,8 +30,8 @@ scratch-checks map marks queue =
     ∷ record { holds = leb (pixels-of map) (length queue); fault = Scratch 2 } ∷ []
 
 -- what is wrong with a flood from z, if anything is
-abbrev pub flood-fault : {V : Type 0} → Map V → ℕ → List ℕ → List ℕ → Option MapFault
-flood-fault map z marks queue = first-fault (pixel-check map z ∷ scratch-checks map marks queue)
+abbrev pub flood-fault : {V : Type 0} → Map V → ℕ → RefT (List ℕ) → RefT (List ℕ) → Option MapFault
+flood-fault map z marks queue = first-fault (pixel-check map z ∷ scratch-checks map (now marks) (now queue))
 
 -- the ground of the free pixels alone
 abbrev pub among-free : List ℕ → Ground → Ground
@@ -48,9 +49,9 @@ pub record Flooded (g : Ground) (z : ℕ) (marks queue queue′ : List ℕ) (cou
 pub record Spread-out (g : Ground) (z : ℕ) (marks queue : List ℕ) (f : Finds) : Type 0 where
   pub flooded : Flooded g z marks queue (f .queue) (f .count)
   pub pixels-served : (i : ℕ) → i < f .count → getD (f .queue) i 0 < served (length (f .marks))
-  pub marks-back : unmark-all (f .marks) (found f) ≡ marks
+  pub marks-back : unmark-all (f .marks) (found-in f) ≡ marks
 
 -- what the answer of a flood says of the queue; a refusal leaves it
-abbrev pub Queue-after : Ground → ℕ → List ℕ → List ℕ → List ℕ → Result ℕ MapFault → Type 0
-Queue-after g z marks queue queue′ (Ok count) = Flooded g z marks queue queue′ count
-Queue-after g z marks queue queue′ (Err f) = queue′ ≡ queue
+abbrev pub Queue-after : Ground → ℕ → RefT (List ℕ) → RefT (List ℕ) → RefT (List ℕ) → Result ℕ MapFault → Type 0
+Queue-after g z marks queue queue′ (Ok count) = Flooded g z (now marks) (now queue) (now queue′) count
+Queue-after g z marks queue queue′ (Err f) = now queue′ ≡ now queue

@@ -2,6 +2,7 @@
 use mathlib.Core.List.{List, [], _∷_, _++_}
 use mathlib.Core.Bool.{Bool, cond}
 use Prim.Native.Nat.{ℕ}
+use denote.Ref.{RefT, now}
 use lib.Dec.{eqb}
 use lib.ListN.{length, set}
 use Rattle.std.specs.declared.result.Result.{Result}
@@ -20,10 +21,15 @@ use Rattle.neighbourhoods.specs.Floods.{pixel-check, scratch-checks}
 abbrev pub sheet-check : {V : Type 0} → Map V → List ℕ → Check MapFault
 sheet-check map sheet = record { holds = eqb (length sheet) (pixels-of map); fault = Misfit 2 }
 
--- what a reach call from a pixel answers
-abbrev pub reach-answer : {V : Type 0} → Judgement V → Map V → ℕ → List ℕ → List ℕ → List ℕ → Result Unit MapFault
+-- the checks of a reach call from a pixel
+abbrev pub reach-checks : {V : Type 0} → Judgement V → Map V → ℕ → List ℕ → List ℕ → List ℕ → List (Check MapFault)
+reach-checks j map pixel sheet marks queue =
+    pixel-check map pixel ∷ sheet-check map sheet ∷ scratch-checks map marks queue ++ admission-check j map ∷ []
+
+-- what it answers
+abbrev pub reach-answer : {V : Type 0} → Judgement V → Map V → ℕ → RefT (List ℕ) → RefT (List ℕ) → RefT (List ℕ) → Result Unit MapFault
 reach-answer j map pixel sheet marks queue =
-    answered (first-fault (pixel-check map pixel ∷ sheet-check map sheet ∷ scratch-checks map marks queue ++ admission-check j map ∷ [])) tt
+    answered (first-fault (reach-checks j map pixel (now sheet) (now marks) (now queue))) tt
 
 -- the sheet of a test: for each pixel 1 where it passes, and else 0
 abbrev pub sheet-of : ℕ → (ℕ → Bool) → List ℕ

@@ -20,14 +20,15 @@ shifted side Back from = cond (ltb 0 from) (Some (from - 1)) None
 shifted side Stay from = Some from
 shifted side On from = cond (ltb (from + 1) side) (Some (from + 1)) None
 
-abbrev pub step : Shift → Shift → Step
-step rows columns = record { rows = rows; columns = columns }
+-- the step by a shift of the row and a shift of the column
+abbrev pub by-shifts : Shift → Shift → Step
+by-shifts rows columns = record { rows = rows; columns = columns }
 
 -- the four straight steps, then the four to the corners
 abbrev pub all-steps : List Step
 all-steps =
-    step Back Stay ∷ step On Stay ∷ step Stay Back ∷ step Stay On
-    ∷ step Back Back ∷ step Back On ∷ step On Back ∷ step On On ∷ []
+    by-shifts Back Stay ∷ by-shifts On Stay ∷ by-shifts Stay Back ∷ by-shifts Stay On
+    ∷ by-shifts Back Back ∷ by-shifts Back On ∷ by-shifts On Back ∷ by-shifts On On ∷ []
 
 -- the steps of a joining: all with joining 8, else the straight ones
 abbrev pub steps-of : ℕ → List Step

@@ -41,7 +41,7 @@ pub(crate) fn check_flood<V>(
     marks: &[u8],
     queue: &[u32],
 ) -> Result<(), MapFault>
-    ensures { λ r. ⌜ r ≡ answered (flood-fault (now (map .entry)) z (now (marks .entry)) (now (queue .entry))) tt ⌝ }
+    ensures { λ r. ⌜ r ≡ answered (flood-fault (now (map .entry)) z (marks .entry) (queue .entry)) tt ⌝ }
 {
     check_pixel(map, z)?;
     check_scratch(map, marks, queue)
@@ -56,7 +56,7 @@ pub(crate) fn check_reach<C: Criterion>(
     marks: &[u8],
     queue: &[u32],
 ) -> Result<(), MapFault>
-    ensures { λ r. ⌜ r ≡ reach-answer (judgement (now (criterion .entry))) (now (map .entry)) pixel (now (sheet .entry)) (now (marks .entry)) (now (queue .entry)) ⌝ }
+    ensures { λ r. ⌜ r ≡ reach-answer (judgement (now (criterion .entry))) (now (map .entry)) pixel (sheet .entry) (marks .entry) (queue .entry) ⌝ }
 {
     check_pixel(map, pixel)?;
     if sheet.len() != map.pixels() {

@@ -7,7 +7,7 @@ ghost use Rattle.std.specs.Results.{errPart};
 ghost use Rattle.maps.specs.Windows.{pixels-of};
 ghost use Rattle.maps.specs.Grounds.{ground};
 ghost use Rattle.neighbourhoods.specs.Marks.{served, free};
-ghost use Rattle.neighbourhoods.specs.Finds.{finds, visited, expanded, Room, unmark-all};
+ghost use Rattle.neighbourhoods.specs.Finds.{finds, visited, expanded, expanded-at, Room, unmark-all};
 ghost use Rattle.neighbourhoods.specs.Floods.{flood-fault, Flooded, Spread-out, Queue-after};
 use crate::checks::check_flood;
 use crate::marks::clear;
@@ -60,18 +60,29 @@ fn expand<C: Criterion>(
     let mut count = found;
     for step in steps(map) {
         if let Some(next) = place.after(*step, map) {
-            count = visit(
-                criterion,
-                centre,
-                map.values()[next],
-                next,
-                marks,
-                queue,
-                count,
-            );
+            let value = map.values()[next];
+            count = visit(criterion, centre, value, next, marks, queue, count);
         }
     }
     count
+}
+
+// Visits the neighbours of the pixel that stands at this place in the queue.
+fn expand_queued<C: Criterion>(
+    criterion: &C,
+    map: &Map<C::Value>,
+    centre: C::Value,
+    place: usize,
+    marks: &mut [u8],
+    queue: &mut [u32],
+    found: usize,
+) -> usize
+    requires queued { ⌜ place < length (now queue) ⌝ ∗ ⌜ getD (now queue) place 0 < pixels-of (now map) ⌝ }
+    requires room { ⌜ Room (pixels-of (now map)) (finds marks queue found) ⌝ }
+    ensures { λ r. ⌜ finds (marks .exit) (queue .exit) r ≡ expanded-at (judgement (now (criterion .entry))) (now (map .entry)) centre place (finds (marks .entry) (queue .entry) found) ⌝ }
+{
+    let pixel = queue[place] as usize;
+    expand(criterion, map, centre, pixel, marks, queue, found)
 }
 
 // Frees the first pixels of the queue, the last found first.
@@ -101,8 +112,7 @@ fn spread<C: Criterion>(
     let mut found = visit(criterion, centre, centre, z, marks, queue, 0);
     let mut done = 0;
     while done < found {
-        let pixel = queue[done] as usize;
-        found = expand(criterion, map, centre, pixel, marks, queue, found);
+        found = expand_queued(criterion, map, centre, done, marks, queue, found);
         done += 1;
     }
     found
@@ -135,9 +145,9 @@ pub fn flood<C: Criterion>(
     marks: &mut [u8],
     queue: &mut [u32],
 ) -> Result<usize, MapFault>
-    ensures answer { λ r. ⌜ errPart r ≡ flood-fault (now (map .entry)) z (now (marks .entry)) (now (queue .entry)) ⌝ }
+    ensures answer { λ r. ⌜ errPart r ≡ flood-fault (now (map .entry)) z (marks .entry) (queue .entry) ⌝ }
     ensures marks_kept { λ _. ⌜ now (marks .exit) ≡ now (marks .entry) ⌝ }
-    ensures queue_after { λ r. ⌜ Queue-after (ground (judgement (now (criterion .entry))) (now (map .entry))) z (now (marks .entry)) (now (queue .entry)) (now (queue .exit)) r ⌝ }
+    ensures queue_after { λ r. ⌜ Queue-after (ground (judgement (now (criterion .entry))) (now (map .entry))) z (marks .entry) (queue .entry) (queue .exit) r ⌝ }
 {
     check_flood(map, z, marks, queue)?;
     Ok(flood_within(criterion, map, z, marks, queue))

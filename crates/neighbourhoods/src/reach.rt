@@ -71,7 +71,7 @@ pub fn reach_weak<C: Criterion>(
     marks: &mut [u8],
     queue: &mut [u32],
 ) -> Result<(), MapFault>
-    ensures answer { λ r. ⌜ r ≡ reach-answer (judgement (now (criterion .entry))) (now (map .entry)) pixel (now (sheet .entry)) (now (marks .entry)) (now (queue .entry)) ⌝ }
+    ensures answer { λ r. ⌜ r ≡ reach-answer (judgement (now (criterion .entry))) (now (map .entry)) pixel (sheet .entry) (marks .entry) (queue .entry) ⌝ }
     ensures sheet_after { λ r. ⌜ now (sheet .exit) ≡ left-by r (weak-sheet (ground (judgement (now (criterion .entry))) (now (map .entry))) pixel) (now (sheet .entry)) ⌝ }
     ensures marks_cleared { λ _. ⌜ now (marks .exit) ≡ zeros (length (now (marks .entry))) ⌝ }
     ensures queue_cleared { λ _. ⌜ now (queue .exit) ≡ zeros (length (now (queue .entry))) ⌝ }
@@ -92,7 +92,7 @@ pub fn reach_symmetric<C: Criterion>(
     marks: &mut [u8],
     queue: &mut [u32],
 ) -> Result<(), MapFault>
-    ensures answer { λ r. ⌜ r ≡ reach-answer (judgement (now (criterion .entry))) (now (map .entry)) pixel (now (sheet .entry)) (now (marks .entry)) (now (queue .entry)) ⌝ }
+    ensures answer { λ r. ⌜ r ≡ reach-answer (judgement (now (criterion .entry))) (now (map .entry)) pixel (sheet .entry) (marks .entry) (queue .entry) ⌝ }
     ensures sheet_after { λ r. ⌜ now (sheet .exit) ≡ left-by r (symmetric-sheet (ground (judgement (now (criterion .entry))) (now (map .entry))) pixel) (now (sheet .entry)) ⌝ }
     ensures marks_cleared { λ _. ⌜ now (marks .exit) ≡ zeros (length (now (marks .entry))) ⌝ }
     ensures queue_cleared { λ _. ⌜ now (queue .exit) ≡ zeros (length (now (queue .entry))) ⌝ }

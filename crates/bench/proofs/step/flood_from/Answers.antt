@@ -1,4 +1,7 @@
 use mathlib.Core.Path.{subst}
+use mathlib.Core.List.{List}
+use Prim.Native.Nat.{ℕ}
+use denote.Ref.{RefT}
 use Rattle.maps.specs.Grounds.{ground}
 use Rattle.neighbourhoods.specs.Floods.{Queue-after}
 use borrow.Author.Needs.{needs}
@@ -9,8 +12,8 @@ use Rattle.bench.proofs.step.flood_from.Needs as need
 pub returns : need.returns
 returns g c =
     let g′ = ground (g .C·Criterion .judgement (c .args .criterion .now)) (c .args .map .now) in
-    let after = Queue-after g′ (c .args .z) (c .args .marks .now) (c .args .queue .now) (c .flood .last .queue) in
-    let flooded = subst after (c .unwrap .ensures) (c .flood .ensures .queue-after) in
+    let queue′ : RefT (List ℕ) = record { ptr = c .args .queue .ptr; name = c .args .queue .name; now = c .flood .last .queue } in
+    let flooded = subst (Queue-after g′ (c .args .z) (c .args .marks) (c .args .queue) queue′) (c .unwrap .ensures) (c .flood .ensures .queue-after) in
     record {
       count = flooded .within;
       listed = flooded .listed (clear-from (c .args .marks .now) (c .pre .marks) (c .pre .clear));

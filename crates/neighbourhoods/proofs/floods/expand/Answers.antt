@@ -1,11 +1,9 @@
-use mathlib.Core.Path.{_≡_, sym, ap, _∙_, subst}
-use Prim.Native.Nat.{_*_, _<_, _≤_}
+use mathlib.Core.Path.{ap, subst}
+use Prim.Native.Nat.{_*_, _<_}
 use native.Mathlib.Omega.{arith}
-use lib.ListN.{length, getD}
-use Rattle.std.specs.declared.option.Option.the-variants.{Some, None}
+use lib.ListN.{length}
 use Rattle.morphology.specs.Pictures.{At}
 use Rattle.morphology.proofs.Values.{at-read}
-use Rattle.maps.specs.Windows.{pixels-of}
 use Rattle.maps.proofs.Figures.{tile-of-map}
 use Rattle.maps.proofs.Nearness.{passes-at}
 use Rattle.neighbourhoods.proofs.Stepping.{row-inside, column-inside}

@@ -1,4 +1,4 @@
-use mathlib.Core.Path.{_≡_, sym, ap, subst}
+use mathlib.Core.Path.{ap, subst}
 use Prim.Native.Nat.{_<_}
 use native.Mathlib.Omega.{arith}
 use lib.ListN.{length}
@@ -17,16 +17,10 @@ loop-done-holds g c =
     let s = started _ m z read (c .args .marks .now) (c .args .queue .now) (c .pre .pixel) (c .pre .room .0) (c .pre .room .1) (c .visit-found .ensures) in
     loop-starts _ m z read s
 
-pub offset-queue-done : need.offset-queue-done
-offset-queue-done g c =
-    let t = tile-of-map (c .args .map .now) (c .args .z) (c .pre .pixel) in
-    omega (arith, c .loop-done .inv .safe .count-fits, t .pixels-fit, c .loop-done-test .taken)
-
-pub index-queue-done : need.index-queue-done
-index-queue-done g c = c .loop-done .inv .safe .queued (c .loop-done-test .taken)
-
-pub expand-found-requires : need.expand-found-requires
-expand-found-requires g c κs = record { pixel = c .loop-done .inv .safe .pixel-inside (c .loop-done-test .taken); room = c .loop-done .inv .safe .room }
+pub expand-queued-found-requires : need.expand-queued-found-requires
+expand-queued-found-requires g c κs =
+    let safe = c .loop-done .inv .safe in
+    record { queued = (safe .queued (c .loop-done-test .taken), safe .pixel-inside (c .loop-done-test .taken)); room = safe .room }
 
 pub add-done : need.add-done
 add-done g c =
@@ -43,7 +37,7 @@ loop-done-again g c =
     let in-values : z < length (c .values .result .now) = omega (arith, m .full, ap length (c .values .ensures), c .pre .pixel) in
     let read = subst (λ xs. At xs z (c .index-values-z .result)) (c .values .ensures) (at-read (c .values .result .now) z _ in-values (c .index-values-z .is)) in
     let s = started _ m z read (c .args .marks .now) (c .args .queue .now) (c .pre .pixel) (c .pre .room .0) (c .pre .room .1) (c .visit-found .ensures) in
-    loop-turns _ m z read s (c .loop-done .inv) (c .loop-done-test .taken) (c .expand-found .ensures)
+    loop-turns _ m z read s (c .loop-done .inv) (c .loop-done-test .taken) (c .expand-queued-found .ensures)
 
 pub returns : need.returns
 returns g c =

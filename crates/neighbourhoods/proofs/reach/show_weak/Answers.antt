@@ -1,7 +1,6 @@
 use mathlib.Core.Path.{_≡_, ap, _∙_}
 use native.Mathlib.Omega.{arith}
 use lib.ListN.{length, take, length-replicate}
-use Prim.Native.Nat.{ℕ}
 use Rattle.maps.specs.Windows.{pixels-of}
 use Rattle.neighbourhoods.specs.Zeros.{zeros}
 use Rattle.neighbourhoods.specs.Sheets.{drawn}
