@@ -26,7 +26,7 @@ fn attempt<C: Criterion, S: Scale>(
     queue: &mut [u32],
     spare: &mut [S],
 ) -> Result<i8, BenchFault>
-    ensures { Filtered (setting grading (judgement criterion.now) map.now)
+    ensures { Filtered (setting S.grading (C.judgement criterion.now) map.now)
         (asking operation size marks.old queue.old spare.old)
         (standing bench.old picture.old) result (standing bench.new picture.new) }
 {
@@ -46,7 +46,7 @@ fn attempt<C: Criterion, S: Scale>(
 
 // Writes the lowest value into each element.
 fn clear_spare<S: Scale>(spare: &mut [S])
-    ensures { spare.new ≡ replicate (length spare.new) grading.lowest }
+    ensures { spare.new ≡ replicate (length spare.new) S.grading.lowest }
 {
     fill(spare, S::lowest());
 }
@@ -63,10 +63,10 @@ fn filter<C: Criterion, S: Scale>(
     queue: &mut [u32],
     spare: &mut [S],
 ) -> Result<i8, BenchFault>
-    ensures filtered { Filtered (setting grading (judgement criterion.now) map.now)
+    ensures filtered { Filtered (setting S.grading (C.judgement criterion.now) map.now)
         (asking operation size marks.old queue.old spare.old)
         (standing bench.old picture.old) result (standing bench.new picture.new) }
-    ensures cleared { Cleared grading.lowest marks.new queue.new spare.new }
+    ensures cleared { Cleared S.grading.lowest marks.new queue.new spare.new }
 {
     let marks = Marks(marks);
     let queue = Queue(queue);
@@ -86,10 +86,10 @@ pub fn dilate<C: Criterion, S: Scale>(
     scratch: Scratch<S>,
     size: u8,
 ) -> Result<i8, BenchFault>
-    ensures filtered { Filtered (setting grading (judgement criterion.now) map.now)
+    ensures filtered { Filtered (setting S.grading (C.judgement criterion.now) map.now)
         (asking Operation.Dilate size scratch.entry.marks.now scratch.entry.queue.now scratch.entry.spare.now)
         (standing bench.old picture.old) result (standing bench.new picture.new) }
-    ensures cleared { Cleared grading.lowest
+    ensures cleared { Cleared S.grading.lowest
         scratch.exit.0.now scratch.exit.1.0.now scratch.exit.1.1.0.now }
 {
     let Scratch {
@@ -119,10 +119,10 @@ pub fn erode<C: Criterion, S: Scale>(
     scratch: Scratch<S>,
     size: u8,
 ) -> Result<i8, BenchFault>
-    ensures filtered { Filtered (setting grading (judgement criterion.now) map.now)
+    ensures filtered { Filtered (setting S.grading (C.judgement criterion.now) map.now)
         (asking Operation.Erode size scratch.entry.marks.now scratch.entry.queue.now scratch.entry.spare.now)
         (standing bench.old picture.old) result (standing bench.new picture.new) }
-    ensures cleared { Cleared grading.lowest
+    ensures cleared { Cleared S.grading.lowest
         scratch.exit.0.now scratch.exit.1.0.now scratch.exit.1.1.0.now }
 {
     let Scratch {
@@ -152,10 +152,10 @@ pub fn open<C: Criterion, S: Scale>(
     scratch: Scratch<S>,
     size: u8,
 ) -> Result<i8, BenchFault>
-    ensures filtered { Filtered (setting grading (judgement criterion.now) map.now)
+    ensures filtered { Filtered (setting S.grading (C.judgement criterion.now) map.now)
         (asking Operation.Open size scratch.entry.marks.now scratch.entry.queue.now scratch.entry.spare.now)
         (standing bench.old picture.old) result (standing bench.new picture.new) }
-    ensures cleared { Cleared grading.lowest
+    ensures cleared { Cleared S.grading.lowest
         scratch.exit.0.now scratch.exit.1.0.now scratch.exit.1.1.0.now }
 {
     let Scratch {
@@ -185,10 +185,10 @@ pub fn close<C: Criterion, S: Scale>(
     scratch: Scratch<S>,
     size: u8,
 ) -> Result<i8, BenchFault>
-    ensures filtered { Filtered (setting grading (judgement criterion.now) map.now)
+    ensures filtered { Filtered (setting S.grading (C.judgement criterion.now) map.now)
         (asking Operation.Close size scratch.entry.marks.now scratch.entry.queue.now scratch.entry.spare.now)
         (standing bench.old picture.old) result (standing bench.new picture.new) }
-    ensures cleared { Cleared grading.lowest
+    ensures cleared { Cleared S.grading.lowest
         scratch.exit.0.now scratch.exit.1.0.now scratch.exit.1.1.0.now }
 {
     let Scratch {

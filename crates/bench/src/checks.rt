@@ -23,9 +23,9 @@ fn fits<V>(map: &Map<V>, tile: Tile) -> bool
 
 // Refuses a map with a value that is not admitted.
 fn check_admission<C: Criterion>(criterion: &C, map: &Map<C::Value>) -> Result<(), BenchFault>
-    ensures admitted { OnOk result (inadmissible (judgement criterion.now) map.now ≡ None) }
+    ensures admitted { OnOk result (inadmissible (C.judgement criterion.now) map.now ≡ None) }
     ensures answer { result ≡ answered
-        (first_fault (from_map (admission_check (judgement criterion.now) map.now) ∷ [])) tt }
+        (first_fault (from_map (admission_check (C.judgement criterion.now) map.now) ∷ [])) tt }
 {
     check_admitted(criterion, map)?;
     Ok(())
@@ -39,8 +39,8 @@ pub(crate) fn check_seat<C: Criterion>(
 ) -> Result<(), BenchFault>
     ensures filled { OnOk result (0 < pixels_of map.now) }
     ensures picture { OnOk result (count ≡ pixels_of map.now) }
-    ensures admitted { OnOk result (inadmissible (judgement criterion.now) map.now ≡ None) }
-    ensures answer { result ≡ answered (first_fault (seat_checks (judgement criterion.now) map.now count)) tt }
+    ensures admitted { OnOk result (inadmissible (C.judgement criterion.now) map.now ≡ None) }
+    ensures answer { result ≡ answered (first_fault (seat_checks (C.judgement criterion.now) map.now count)) tt }
 {
     if map.pixels() == 0 {
         return Err(BenchFault::Misfit(1));
@@ -58,8 +58,8 @@ fn check_room<C: Criterion>(
     criterion: &C,
     room: Room,
 ) -> Result<(), BenchFault>
-    ensures answer { result ≡ answered (first_fault (room_checks (judgement criterion.now) map.now room)) tt }
-    ensures admitted { OnOk result (inadmissible (judgement criterion.now) map.now ≡ None) }
+    ensures answer { result ≡ answered (first_fault (room_checks (C.judgement criterion.now) map.now room)) tt }
+    ensures admitted { OnOk result (inadmissible (C.judgement criterion.now) map.now ≡ None) }
     ensures marks { OnOk result (pixels_of map.now ≤ room.marks) }
     ensures queue { OnOk result (pixels_of map.now ≤ room.queue) }
     ensures spare { OnOk result (pixels_of map.now ≤ room.spare) }
@@ -86,8 +86,8 @@ pub(crate) fn check_handed<C: Criterion>(
     room: Room,
 ) -> Result<(), BenchFault>
     ensures answer { result ≡ answered
-        (first_fault (handed_checks (judgement criterion.now) map.now tile count room)) tt }
-    ensures admitted { OnOk result (inadmissible (judgement criterion.now) map.now ≡ None) }
+        (first_fault (handed_checks (C.judgement criterion.now) map.now tile count room)) tt }
+    ensures admitted { OnOk result (inadmissible (C.judgement criterion.now) map.now ≡ None) }
     ensures picture { OnOk result (count ≡ pixels_of map.now) }
     ensures marks { OnOk result (pixels_of map.now ≤ room.marks) }
     ensures queue { OnOk result (pixels_of map.now ≤ room.queue) }

@@ -1,4 +1,6 @@
 // The bench on which a picture is filtered: seat, the four filter calls, the residue of two pictures, and the note at the end.
+#![tactic(auto)]
+
 mod bench;
 mod calls;
 mod checks;

@@ -20,8 +20,8 @@ pub fn seat<C: Criterion, S: Scale>(
     picture: &[S],
 ) -> Result<Bench, BenchFault>
     ensures fault { result_err result ≡
-        first_fault (seat_checks (judgement criterion.now) map.now (length picture.now)) }
-    ensures seated { IfOk result (Seated (setting grading (judgement criterion.now) map.now) picture.now) }
+        first_fault (seat_checks (C.judgement criterion.now) map.now (length picture.now)) }
+    ensures seated { IfOk result (Seated (setting S.grading (C.judgement criterion.now) map.now) picture.now) }
 {
     check_seat(map, criterion, picture.len())?;
     let tile = Tile {

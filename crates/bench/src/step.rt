@@ -18,7 +18,7 @@ use scales::Scale;
 
 // The join of two values, or their meet.
 fn pick<S: Scale>(up: bool, a: S, b: S) -> S
-    ensures { result ≡ (towards up grading).join a b }
+    ensures { result ≡ (towards up S.grading).join a b }
 {
     if up { a.join(b) } else { a.meet(b) }
 }
@@ -27,7 +27,7 @@ fn pick<S: Scale>(up: bool, a: S, b: S) -> S
 fn gather<S: Scale>(up: bool, picture: &[S], pixels: &[u32]) -> S
     requires some { 0 < length pixels.now }
     requires within { Within (length picture.now) pixels.now }
-    ensures { JoinOf (towards up grading) (Over (In pixels.now) picture.now) result }
+    ensures { JoinOf (towards up S.grading) (Over (In pixels.now) picture.now) result }
 {
     let mut all = picture[pixels[0] as usize];
     for i in 1..pixels.len() {
@@ -39,7 +39,7 @@ fn gather<S: Scale>(up: bool, picture: &[S], pixels: &[u32]) -> S
 // Joins the value into the spare picture at this pixel, or meets it.
 fn put_at<S: Scale>(up: bool, spare: &mut [S], pixel: usize, v: S)
     requires { pixel < length spare.old }
-    ensures { spare.new ≡ slice_set spare.old pixel ((towards up grading).join (slice_index_or spare.old pixel v) v) }
+    ensures { spare.new ≡ slice_set spare.old pixel ((towards up S.grading).join (slice_index_or spare.old pixel v) v) }
 {
     spare[pixel] = pick(up, spare[pixel], v);
 }
@@ -48,7 +48,7 @@ fn put_at<S: Scale>(up: bool, spare: &mut [S], pixel: usize, v: S)
 fn put<S: Scale>(up: bool, spare: &mut [S], pixels: &[u32], v: S)
     requires within { Within (length spare.old) pixels.now }
     requires once { Once pixels.now }
-    ensures { AllPut (towards up grading) (In pixels.now) v spare.old spare.new }
+    ensures { AllPut (towards up S.grading) (In pixels.now) v spare.old spare.new }
 {
     for pixel in pixels {
         put_at(up, spare, *pixel as usize, v);
@@ -68,7 +68,7 @@ fn flood_from<C: Criterion>(
     requires marks { pixels_of map.now ≤ length marks.old }
     requires queue { pixels_of map.now ≤ length queue.old }
     ensures count { result ≤ length queue.new }
-    ensures listed { Lists (Weak (ground (judgement criterion.now) map.now) z) (take result queue.new) }
+    ensures listed { Lists (Weak (ground (C.judgement criterion.now) map.now) z) (take result queue.new) }
     ensures marks { marks.new ≡ marks.old }
 {
     flood(criterion, map, z, marks, queue).unwrap()
@@ -85,9 +85,9 @@ fn spread<C: Criterion, S: Scale>(
     queue: &mut [u32],
     spare: &mut [S],
 )
-    requires ready { Ready (judgement criterion.now) map.now marks.old (length queue.old) (length picture.now) (length spare.old) }
+    requires ready { Ready (C.judgement criterion.now) map.now marks.old (length queue.old) (length picture.now) (length spare.old) }
     requires pixel { z < pixels_of map.now }
-    ensures spare { Spread (towards up grading) (ground (judgement criterion.now) map.now) z
+    ensures spare { Spread (towards up S.grading) (ground (C.judgement criterion.now) map.now) z
         picture.now spare.old spare.new }
     ensures marks { marks.new ≡ marks.old }
 {
@@ -107,9 +107,9 @@ fn step<C: Criterion, S: Scale>(
     queue: &mut [u32],
     spare: &mut [S],
 )
-    requires { Ready (judgement criterion.now) map.now marks.old (length queue.old) (length picture.old) (length spare.old) }
+    requires { Ready (C.judgement criterion.now) map.now marks.old (length queue.old) (length picture.old) (length spare.old) }
     ensures picture { picture.new ≡
-        dilation (towards up grading) (ground (judgement criterion.now) map.now) picture.old }
+        dilation (towards up S.grading) (ground (C.judgement criterion.now) map.now) picture.old }
     ensures marks { marks.new ≡ marks.old }
 {
     spare.copy_from_slice(picture);
@@ -130,9 +130,9 @@ fn repeat<C: Criterion, S: Scale>(
     queue: &mut [u32],
     spare: &mut [S],
 )
-    requires { Ready (judgement criterion.now) map.now marks.old (length queue.old) (length picture.old) (length spare.old) }
+    requires { Ready (C.judgement criterion.now) map.now marks.old (length queue.old) (length picture.old) (length spare.old) }
     ensures picture { picture.new ≡
-        times size (dilation (towards up grading) (ground (judgement criterion.now) map.now)) picture.old }
+        times size (dilation (towards up S.grading) (ground (C.judgement criterion.now) map.now)) picture.old }
     ensures marks { marks.new ≡ marks.old }
 {
     for done in 0..size {
@@ -151,14 +151,14 @@ pub(crate) fn operate<C: Criterion, S: Scale>(
     queue: &mut [u32],
     spare: &mut [S],
 )
-    requires admitted { inadmissible (judgement criterion.now) map.now ≡ None }
+    requires admitted { inadmissible (C.judgement criterion.now) map.now ≡ None }
     requires clear { marks.old ≡ replicate (length marks.old) 0 }
     requires picture { length picture.old ≡ pixels_of map.now }
     requires marks { pixels_of map.now ≤ length marks.old }
     requires queue { pixels_of map.now ≤ length queue.old }
     requires spare { pixels_of map.now ≤ length spare.old }
     ensures { picture.new ≡
-        operated grading (ground (judgement criterion.now) map.now) operation size picture.old }
+        operated S.grading (ground (C.judgement criterion.now) map.now) operation size picture.old }
 {
     let spare = &mut spare[..picture.len()];
     match operation {

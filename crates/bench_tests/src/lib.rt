@@ -1,4 +1,6 @@
 // A caller that leans on the law over lists of calls, and runs of the bench on the three scales.
+#![tactic(auto)]
+
 ghost use Rattle.morphology.specs.Pictures.{Under};
 
 use bench::{Bench, BenchFault, Scratch};
@@ -16,7 +18,7 @@ pub fn lower<C: Criterion, S: Scale>(
     spare: &mut [S],
     size: u8,
 ) -> Result<Bench, BenchFault>
-    ensures { Under grading picture.new picture.old }
+    ensures { Under S.grading picture.new picture.old }
 {
     let mut seated = bench::seat(map, criterion, picture)?;
     let scratch = Scratch {

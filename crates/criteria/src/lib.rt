@@ -1,5 +1,7 @@
 // Criteria: which values of a map are admitted, and which are near a centre value.
 // The faults of the map layer live here, in the lowest crate of that layer.
+#![tactic(auto)]
+
 mod check;
 mod criterion;
 mod fault;

@@ -1,4 +1,6 @@
 // Reads a job from standard input, and prints what it did.
+#![tactic(auto)]
+
 use std::io;
 use std::io::Read;
 

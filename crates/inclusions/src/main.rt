@@ -1,5 +1,7 @@
 // Reads a job from standard input, and prints what its calls took from the tile: the residue of the tile as taken over the
 // tile as filtered, and how many pixels differ.
+#![tactic(auto)]
+
 use std::io;
 use std::io::Read;
 

@@ -27,7 +27,7 @@ fn lay_by<C: Criterion<Value = u8>>(
     values: &[u8],
 ) -> Result<(), BenchFault>
     requires { first_fault (map_checks head.width head.height head.joining (length values.now)) ≡ None }
-    ensures { result ≡ lay_answer (judgement criterion.now).admits values.now }
+    ensures { result ≡ lay_answer (C.judgement criterion.now).admits values.now }
 {
     let mut map = Map::empty();
     map.make(

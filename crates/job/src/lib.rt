@@ -1,4 +1,6 @@
 // Jobs: their records, the reader, and the text that a job prints.
+#![tactic(auto)]
+
 mod fault;
 mod head;
 mod letters;

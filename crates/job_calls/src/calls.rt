@@ -45,7 +45,7 @@ fn filter<C: Criterion<Value = u8>>(
     criterion: &C,
     picture: &mut [u8],
 ) -> Result<i8, BenchFault>
-    ensures { Filtered (grey_setting (judgement criterion.now) map.now) (asked (calling operation size))
+    ensures { Filtered (grey_setting (C.judgement criterion.now) map.now) (asked (calling operation size))
         (standing bench.old picture.old) result (standing bench.new picture.new) }
 {
     let mut marks = [0u8; 4096];
@@ -87,7 +87,7 @@ fn make_call<C: Criterion<Value = u8>>(
     text: &mut String,
 ) -> Result<(), Stop>
     requires { reader.old.place.state ≡ state.Calls }
-    ensures tried { Tried (grey_setting (judgement criterion.now) map.now)
+    ensures tried { Tried (grey_setting (C.judgement criterion.now) map.now)
         number reader.old.place.next bytes.now
         (standing bench.old picture.old) (string_bytes text.old)
         result (standing bench.new picture.new) (string_bytes text.new) }
@@ -115,7 +115,7 @@ pub(crate) fn make_calls<C: Criterion<Value = u8>>(
 ) -> Result<(), Stop>
     requires state { reader.old.place.state ≡ state.Calls }
     requires numbers { first + length records.now < 2 ^ 64 }
-    ensures went { Went (grey_setting (judgement criterion.now) map.now)
+    ensures went { Went (grey_setting (C.judgement criterion.now) map.now)
         first reader.old.place.next records.now left
         (standing bench.old picture.old) (string_bytes text.old)
         result (standing bench.new picture.new) (string_bytes text.new) }

@@ -1,4 +1,6 @@
 // Jobs: the reading of their records, the calls that they ask for, and the text that they print.
+#![tactic(auto)]
+
 mod calls;
 mod lines;
 mod reporting;

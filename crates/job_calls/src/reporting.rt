@@ -34,7 +34,7 @@ fn filter_tile<C: Criterion<Value = u8>>(
     requires taken { Taken records.now taken reader.old.place.head values.now picture.old }
     requires state { reader.old.place.state ≡ state.Calls }
     requires next { reader.old.place.next ≡ pixels reader.old.place.head }
-    requires judged { judgement criterion.now ≡ judged reader.old.place.head }
+    requires judged { C.judgement criterion.now ≡ judged reader.old.place.head }
     requires text { string_bytes text.old ≡ [] }
     ensures { (ending : Ending) → AfterCalls ending records.now left reader.old.place.head picture.old
         result picture.new (string_bytes text.new) }
@@ -96,7 +96,7 @@ fn finish_tile<C: Criterion<Value = u8>>(
     requires taken { Taken records.now taken reader.old.place.head values.now picture.old }
     requires state { reader.old.place.state ≡ state.Calls }
     requires next { reader.old.place.next ≡ pixels reader.old.place.head }
-    requires judged { judgement criterion.now ≡ judged reader.old.place.head }
+    requires judged { C.judgement criterion.now ≡ judged reader.old.place.head }
     requires text { string_bytes text.old ≡ [] }
     ensures { Ends (ending_of view) records.now left result (string_bytes text.new) }
 {

@@ -40,9 +40,9 @@ pub(crate) fn seat_at<'a, C: Criterion<Value = u8>>(
     requires passed { first_fault (map_checks head.width head.height head.joining (length values.now)) ≡ None }
     requires count { length picture.now ≡ length values.now }
     ensures window { window_of map.new ≡ window values.now head.width head.height head.joining }
-    ensures seated { IfOk result (Seated (grey_setting (judgement criterion.now) map.new) picture.now) }
-    ensures admitted { MatchResult result (λ _. FirstNot (judgement criterion.now).admits values.now None)
-        (RefusedAt number (λ i. FirstNot (judgement criterion.now).admits values.now (Some i))) }
+    ensures seated { IfOk result (Seated (grey_setting (C.judgement criterion.now) map.new) picture.now) }
+    ensures admitted { MatchResult result (λ _. FirstNot (C.judgement criterion.now).admits values.now None)
+        (RefusedAt number (λ i. FirstNot (C.judgement criterion.now).admits values.now (Some i))) }
 {
     at(number, lay(map, head, values))?;
     let bench = at(number, bench::seat(&*map, criterion, picture))?;

@@ -7,8 +7,8 @@ use criteria::{Criterion, MapFault};
 
 // The first pixel whose value is not admitted, or that there is none.
 pub fn first_inadmissible<C: Criterion>(criterion: &C, map: &Map<C::Value>) -> Option<usize>
-    ensures value { result ≡ inadmissible (judgement criterion.now) map.now }
-    ensures first { FirstNot (judgement criterion.now).admits map.now.values.now result }
+    ensures value { result ≡ inadmissible (C.judgement criterion.now) map.now }
+    ensures first { FirstNot (C.judgement criterion.now).admits map.now.values.now result }
 {
     let values = map.values;
     for (pixel, value) in values.iter().enumerate() {
@@ -21,7 +21,7 @@ pub fn first_inadmissible<C: Criterion>(criterion: &C, map: &Map<C::Value>) -> O
 
 // Refuses a map with a value that is not admitted.
 pub fn check_admitted<C: Criterion>(criterion: &C, map: &Map<C::Value>) -> Result<(), MapFault>
-    ensures { result ≡ admission_answer (judgement criterion.now) map.now }
+    ensures { result ≡ admission_answer (C.judgement criterion.now) map.now }
 {
     match first_inadmissible(criterion, map) {
         Some(pixel) => Err(MapFault::Inadmissible(pixel)),

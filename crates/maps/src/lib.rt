@@ -1,4 +1,6 @@
 // Maps: windows on criterion values, and what is wrong with one.
+#![tactic(auto)]
+
 mod admission;
 mod make;
 mod map;

@@ -1,4 +1,6 @@
 // The mathematics of adaptive dilation and erosion over any grey scale, proved once, and the plain data of a filter call.
+#![tactic(auto)]
+
 mod calls;
 mod theorems;
 

@@ -20,13 +20,13 @@ pub fn neighbourhoods_hold()
 
 // Dilation is the join and erosion the meet over the symmetric neighbourhood, and the two are adjoint.
 pub fn operators_hold<S: Scale>()
-    ensures { (g : Ground) → LawsOfOperators grading g }
+    ensures { (g : Ground) → LawsOfOperators S.grading g }
 {}
 
 // What any list of calls does to a picture.
 pub fn runs_hold<S: Scale>()
-    ensures bounds { (g : Ground) → LawsOfRuns (Under grading) (dilation grading g) (erosion grading g) }
-    ensures openings { (g : Ground) → LawsOfOpenings (dilation grading g) (erosion grading g) }
+    ensures bounds { (g : Ground) → LawsOfRuns (Under S.grading) (dilation S.grading g) (erosion S.grading g) }
+    ensures openings { (g : Ground) → LawsOfOpenings (dilation S.grading g) (erosion S.grading g) }
 {}
 
 // What the three levels are after any list of calls from level 0.

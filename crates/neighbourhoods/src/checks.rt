@@ -54,7 +54,7 @@ pub(crate) fn check_reach<C: Criterion>(
     marks: &[u8],
     queue: &[u32],
 ) -> Result<(), MapFault>
-    ensures { result ≡ reach_answer (judgement criterion.now) map.now pixel sheet.entry marks.entry queue.entry }
+    ensures { result ≡ reach_answer (C.judgement criterion.now) map.now pixel sheet.entry marks.entry queue.entry }
 {
     check_pixel(map, pixel)?;
     if sheet.len() != map.pixels() {

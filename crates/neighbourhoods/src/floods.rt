@@ -26,7 +26,7 @@ fn visit<C: Criterion>(
 ) -> usize
     requires pixel { (pixel < served (length marks.old)) × (pixel < 2 ^ 32) }
     requires room { free marks.old pixel ≡ true → found < length queue.old }
-    ensures { finds marks.exit queue.exit result ≡ visited ((judgement criterion.now).near centre value) pixel (finds marks.entry queue.entry found) }
+    ensures { finds marks.exit queue.exit result ≡ visited ((C.judgement criterion.now).near centre value) pixel (finds marks.entry queue.entry found) }
 {
     if is_free(marks, pixel) && criterion.near(centre, value) {
         put(marks, pixel);
@@ -49,7 +49,7 @@ fn expand<C: Criterion>(
 ) -> usize
     requires pixel { pixel < pixels_of map.now }
     requires room { Room (pixels_of map.now) (finds marks queue found) }
-    ensures { finds marks.exit queue.exit result ≡ expanded (judgement criterion.now) map.now centre pixel (finds marks.entry queue.entry found) }
+    ensures { finds marks.exit queue.exit result ≡ expanded (C.judgement criterion.now) map.now centre pixel (finds marks.entry queue.entry found) }
 {
     let place = Place::of(pixel, map);
     let mut count = found;
@@ -74,7 +74,7 @@ fn expand_queued<C: Criterion>(
 ) -> usize
     requires queued { (place < length queue.old) × (slice_index queue.old place < pixels_of map.now) }
     requires room { Room (pixels_of map.now) (finds marks queue found) }
-    ensures { finds marks.exit queue.exit result ≡ expanded_at (judgement criterion.now) map.now centre place (finds marks.entry queue.entry found) }
+    ensures { finds marks.exit queue.exit result ≡ expanded_at (C.judgement criterion.now) map.now centre place (finds marks.entry queue.entry found) }
 {
     let pixel = queue[place] as usize;
     expand(criterion, map, centre, pixel, marks, queue, found)
@@ -101,7 +101,7 @@ fn spread<C: Criterion>(
 ) -> usize
     requires pixel { z < pixels_of map.now }
     requires room { (pixels_of map.now ≤ served (length marks.old)) × (pixels_of map.now ≤ length queue.old) }
-    ensures { SpreadOut (ground (judgement criterion.now) map.now) z marks.old queue.old (finds marks.exit queue.exit result) }
+    ensures { SpreadOut (ground (C.judgement criterion.now) map.now) z marks.old queue.old (finds marks.exit queue.exit result) }
 {
     let centre = map.values()[z];
     let mut found = visit(criterion, centre, centre, z, marks, queue, 0);
@@ -124,7 +124,7 @@ pub(crate) fn flood_within<C: Criterion>(
     requires pixel { z < pixels_of map.now }
     requires room { (pixels_of map.now ≤ served (length marks.old)) × (pixels_of map.now ≤ length queue.old) }
     ensures marks_kept { marks.new ≡ marks.old }
-    ensures flooded { Flooded (ground (judgement criterion.now) map.now) z marks.old queue.old queue.new result }
+    ensures flooded { Flooded (ground (C.judgement criterion.now) map.now) z marks.old queue.old queue.new result }
 {
     let found = spread(criterion, map, z, marks, queue);
     unmark(marks, queue, found);
@@ -142,7 +142,7 @@ pub fn flood<C: Criterion>(
 ) -> Result<usize, MapFault>
     ensures answer { result_err result ≡ flood_fault map.now z marks.entry queue.entry }
     ensures marks_kept { marks.new ≡ marks.old }
-    ensures queue_after { QueueAfter (ground (judgement criterion.now) map.now) z marks.entry queue.entry queue.exit result }
+    ensures queue_after { QueueAfter (ground (C.judgement criterion.now) map.now) z marks.entry queue.entry queue.exit result }
 {
     check_flood(map, z, marks, queue)?;
     Ok(flood_within(criterion, map, z, marks, queue))

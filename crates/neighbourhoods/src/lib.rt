@@ -1,4 +1,6 @@
 // Neighbourhoods: the flood that finds one, and the two calls that show one.
+#![tactic(auto)]
+
 mod checks;
 mod floods;
 mod marks;

@@ -27,7 +27,7 @@ fn show_weak<C: Criterion>(
 )
     requires pixel { (pixel < pixels_of map.now) × (length sheet.old ≡ pixels_of map.now) }
     requires room { (pixels_of map.now ≤ served (length marks.old)) × (pixels_of map.now ≤ length queue.old) }
-    ensures { sheet.new ≡ weak_sheet (ground (judgement criterion.now) map.now) pixel }
+    ensures { sheet.new ≡ weak_sheet (ground (C.judgement criterion.now) map.now) pixel }
 {
     clear_all(marks);
     let count = flood_within(criterion, map, pixel, marks, queue);
@@ -46,7 +46,7 @@ fn show_symmetric<C: Criterion>(
 )
     requires pixel { (pixel < pixels_of map.now) × (length sheet.old ≡ pixels_of map.now) }
     requires room { (pixels_of map.now ≤ served (length marks.old)) × (pixels_of map.now ≤ length queue.old) }
-    ensures { sheet.new ≡ symmetric_sheet (ground (judgement criterion.now) map.now) pixel }
+    ensures { sheet.new ≡ symmetric_sheet (ground (C.judgement criterion.now) map.now) pixel }
 {
     clear_all(marks);
     fill(sheet, 0);
@@ -67,8 +67,8 @@ pub fn reach_weak<C: Criterion>(
     marks: &mut [u8],
     queue: &mut [u32],
 ) -> Result<(), MapFault>
-    ensures answer { result ≡ reach_answer (judgement criterion.now) map.now pixel sheet.entry marks.entry queue.entry }
-    ensures sheet_after { sheet.new ≡ left_by result (weak_sheet (ground (judgement criterion.now) map.now) pixel) sheet.old }
+    ensures answer { result ≡ reach_answer (C.judgement criterion.now) map.now pixel sheet.entry marks.entry queue.entry }
+    ensures sheet_after { sheet.new ≡ left_by result (weak_sheet (ground (C.judgement criterion.now) map.now) pixel) sheet.old }
     ensures marks_cleared { marks.new ≡ zeros (length marks.old) }
     ensures queue_cleared { queue.new ≡ zeros (length queue.old) }
 {
@@ -88,8 +88,8 @@ pub fn reach_symmetric<C: Criterion>(
     marks: &mut [u8],
     queue: &mut [u32],
 ) -> Result<(), MapFault>
-    ensures answer { result ≡ reach_answer (judgement criterion.now) map.now pixel sheet.entry marks.entry queue.entry }
-    ensures sheet_after { sheet.new ≡ left_by result (symmetric_sheet (ground (judgement criterion.now) map.now) pixel) sheet.old }
+    ensures answer { result ≡ reach_answer (C.judgement criterion.now) map.now pixel sheet.entry marks.entry queue.entry }
+    ensures sheet_after { sheet.new ≡ left_by result (symmetric_sheet (ground (C.judgement criterion.now) map.now) pixel) sheet.old }
     ensures marks_cleared { marks.new ≡ zeros (length marks.old) }
     ensures queue_cleared { queue.new ≡ zeros (length queue.old) }
 {

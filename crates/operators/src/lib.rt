@@ -1,4 +1,6 @@
 // What an operator does to a picture: dilations and erosions, worked out by floods.
+#![tactic(auto)]
+
 mod fit;
 mod operations;
 mod step;

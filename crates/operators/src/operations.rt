@@ -30,7 +30,7 @@ fn repeat<C: Criterion, S: Scale>(
 )
     requires { Ready (pixels_of map.now) marks.old (length queue.old) (length picture.old) (length spare.old) }
     ensures picture { picture.new ≡
-        times size (dilation (towards up grading) (ground (judgement criterion.now) map.now)) picture.old }
+        times size (dilation (towards up S.grading) (ground (C.judgement criterion.now) map.now)) picture.old }
     ensures marks { marks.new ≡ marks.old }
 {
     for done in 0..size {
@@ -51,7 +51,7 @@ fn operate_within<C: Criterion, S: Scale>(
 )
     requires { Ready (pixels_of map.now) marks.old (length queue.old) (length picture.old) (length spare.old) }
     ensures picture { picture.new ≡
-        operated grading (ground (judgement criterion.now) map.now) operation size picture.old }
+        operated S.grading (ground (C.judgement criterion.now) map.now) operation size picture.old }
     ensures marks { marks.new ≡ marks.old }
 {
     match operation {
@@ -85,7 +85,7 @@ pub fn operate<C: Criterion, S: Scale>(
     ensures answer { result ≡ answered (first_fault (fit_checks (pixels_of map.now) (length picture.old)
         (length marks.old) (length queue.old) (length spare.old))) tt }
     ensures picture { picture.new ≡ left_by result
-        (operated grading (ground (judgement criterion.now) map.now) operation size picture.old)
+        (operated S.grading (ground (C.judgement criterion.now) map.now) operation size picture.old)
         picture.old }
     ensures marks { marks.new ≡ left_by result (zeros (length marks.old)) marks.old }
     ensures queue { KeptIfRefused result queue.old queue.new }

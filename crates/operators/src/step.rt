@@ -16,7 +16,7 @@ use scales::Scale;
 
 // The join of two values, or their meet.
 fn pick<S: Scale>(up: bool, a: S, b: S) -> S
-    ensures { result ≡ (towards up grading).join a b }
+    ensures { result ≡ (towards up S.grading).join a b }
 {
     if up { a.join(b) } else { a.meet(b) }
 }
@@ -24,7 +24,7 @@ fn pick<S: Scale>(up: bool, a: S, b: S) -> S
 // One value and the picture's values at the listed pixels, joined or met.
 fn gather<S: Scale>(up: bool, own: S, picture: &[S], pixels: &[u32]) -> S
     requires { Within (length picture.now) pixels.now }
-    ensures { JoinOf (towards up grading) (OwnOrOver own (In pixels.now) picture.now) result }
+    ensures { JoinOf (towards up S.grading) (OwnOrOver own (In pixels.now) picture.now) result }
 {
     let mut all = own;
     for pixel in pixels {
@@ -36,7 +36,7 @@ fn gather<S: Scale>(up: bool, own: S, picture: &[S], pixels: &[u32]) -> S
 // Joins the value into the spare picture at this pixel, or meets it.
 fn put_at<S: Scale>(up: bool, spare: &mut [S], pixel: usize, v: S)
     requires { pixel < length spare.old }
-    ensures { spare.new ≡ slice_set spare.old pixel ((towards up grading).join (slice_index_or spare.old pixel v) v) }
+    ensures { spare.new ≡ slice_set spare.old pixel ((towards up S.grading).join (slice_index_or spare.old pixel v) v) }
 {
     spare[pixel] = pick(up, spare[pixel], v);
 }
@@ -45,7 +45,7 @@ fn put_at<S: Scale>(up: bool, spare: &mut [S], pixel: usize, v: S)
 fn put<S: Scale>(up: bool, spare: &mut [S], pixels: &[u32], v: S)
     requires within { Within (length spare.old) pixels.now }
     requires once { Once pixels.now }
-    ensures { AllPut (towards up grading) (In pixels.now) v spare.old spare.new }
+    ensures { AllPut (towards up S.grading) (In pixels.now) v spare.old spare.new }
 {
     for pixel in pixels {
         put_at(up, spare, *pixel as usize, v);
@@ -65,7 +65,7 @@ fn flood_from<C: Criterion>(
     requires marks { pixels_of map.now ≤ length marks.old }
     requires queue { pixels_of map.now ≤ length queue.old }
     ensures count { result ≤ length queue.new }
-    ensures listed { Lists (Weak (ground (judgement criterion.now) map.now) z) (take result queue.new) }
+    ensures listed { Lists (Weak (ground (C.judgement criterion.now) map.now) z) (take result queue.new) }
     ensures marks { marks.new ≡ marks.old }
 {
     flood(criterion, map, z, marks, queue).unwrap()
@@ -85,7 +85,7 @@ fn spread<C: Criterion, S: Scale>(
 )
     requires ready { Ready (pixels_of map.now) marks.old (length queue.old) (length picture.now) (length spare.old) }
     requires pixel { z < pixels_of map.now }
-    ensures spare { Spread (towards up grading) (ground (judgement criterion.now) map.now) z
+    ensures spare { Spread (towards up S.grading) (ground (C.judgement criterion.now) map.now) z
         picture.now spare.old spare.new }
     ensures marks { marks.new ≡ marks.old }
 {
@@ -107,7 +107,7 @@ pub(crate) fn step<C: Criterion, S: Scale>(
 )
     requires { Ready (pixels_of map.now) marks.old (length queue.old) (length picture.old) (length spare.old) }
     ensures picture { picture.new ≡
-        dilation (towards up grading) (ground (judgement criterion.now) map.now) picture.old }
+        dilation (towards up S.grading) (ground (C.judgement criterion.now) map.now) picture.old }
     ensures marks { marks.new ≡ marks.old }
 {
     spare.copy_from_slice(picture);

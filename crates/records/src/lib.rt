@@ -1,4 +1,6 @@
 // The records of a job: how they lie in eight bytes, which may come where, and what is wrong with the others.
+#![tactic(auto)]
+
 mod fault;
 mod head;
 mod letters;

@@ -1,5 +1,7 @@
 // Grey scales: kinds of value with an order, a join, a meet and two ends.
 // What filters a picture is written once, over any of them.
+#![tactic(auto)]
+
 mod grey;
 mod phases;
 mod relief;

@@ -33,15 +33,15 @@ pub trait Scale: Copy + PartialEq {
 
 // Is the first value at or below the second, given their meet? It is exactly when the meet is the first.
 fn is_the_meet<S: Scale>(a: S, b: S, meet: S) -> bool
-    requires { meet ≡ grading.meet a b }
-    ensures { Decides result (grading.below a b) }
+    requires { meet ≡ S.grading.meet a b }
+    ensures { Decides result (S.grading.below a b) }
 {
     meet == a
 }
 
 // Is the first value at or below the second?
 pub fn at_or_below<S: Scale>(a: S, b: S) -> bool
-    ensures { Decides result (grading.below a b) }
+    ensures { Decides result (S.grading.below a b) }
 {
     is_the_meet(a, b, a.meet(b))
 }

@@ -1,4 +1,6 @@
 // Prints what the proved calls answer on the worked examples that are tried and not proved.
+#![tactic(auto)]
+
 mod examples;
 mod failure;
 mod levels;
