@@ -1,6 +1,5 @@
 -- What a flood does with marks and queue, visit by visit. Assumes nothing.
 use Rattle.std.specs.Prelude.{ℕ, zero, suc, ◌+◌, ◌≤◌, Bool, cond, ◌&&◌, List, [], ◌∷◌, length, take, Some, None, Option, slice_index, slice_set}
-use Rattle.std.specs.Borrow.{Bor}
 use Rattle.criteria.specs.Criteria.{Judgement}
 use Rattle.maps.specs.declared.map.Map.{Map}
 use Rattle.maps.specs.Grounds.{value_passes}
@@ -14,8 +13,8 @@ pub record Finds : Type 0 where
   pub count : ℕ
 
 -- the same from what code holds
-abbrev pub finds : Bor (List ℕ) → Bor (List ℕ) → ℕ → Finds
-finds marks queue count = record { marks = marks.now; queue = queue.now; count = count }
+abbrev pub finds : List ℕ → List ℕ → ℕ → Finds
+finds marks queue count = record { marks = marks; queue = queue; count = count }
 
 -- the pixels found so far
 abbrev pub found_in : Finds → List ℕ

@@ -1,6 +1,5 @@
 -- What a flood answers and leaves. Assumes nothing.
 use Rattle.std.specs.Prelude.{◌≡◌, ℕ, ◌<◌, ◌≤◌, ◌&&◌, List, [], ◌∷◌, length, take, drop, Ok, Err, Option, Result, nat_le, nat_lt, slice_index}
-use Rattle.std.specs.Borrow.{Bor}
 use Rattle.criteria.specs.declared.fault.MapFault.{MapFault}
 use Rattle.criteria.specs.declared.fault.MapFault.TheVariants.{Pixel, Scratch}
 use Rattle.maps.specs.declared.map.Map.{Map}
@@ -22,8 +21,8 @@ scratch_checks map marks queue =
     ∷ record { holds = nat_le (pixels_of map) (length queue); fault = Scratch 2 } ∷ []
 
 -- what is wrong with a flood from z, if anything is
-abbrev pub flood_fault : {V : Type 0} → Map V → ℕ → Bor (List ℕ) → Bor (List ℕ) → Option MapFault
-flood_fault map z marks queue = first_fault (pixel_check map z ∷ scratch_checks map marks.now queue.now)
+abbrev pub flood_fault : {V : Type 0} → Map V → ℕ → List ℕ → List ℕ → Option MapFault
+flood_fault map z marks queue = first_fault (pixel_check map z ∷ scratch_checks map marks queue)
 
 -- the ground of the free pixels alone
 abbrev pub among_free : List ℕ → Ground → Ground
@@ -44,6 +43,6 @@ pub record SpreadOut (g : Ground) (z : ℕ) (marks queue : List ℕ) (f : Finds)
   pub marks_back : unmark_all f.marks (found_in f) ≡ marks
 
 -- what the answer of a flood says of the queue; a refusal leaves it
-abbrev pub QueueAfter : Ground → ℕ → Bor (List ℕ) → Bor (List ℕ) → Bor (List ℕ) → Result ℕ MapFault → Type 0
-QueueAfter g z marks queue queue' (Ok count) = Flooded g z marks.now queue.now queue'.now count
-QueueAfter g z marks queue queue' (Err f) = queue'.now ≡ queue.now
+abbrev pub QueueAfter : Ground → ℕ → List ℕ → List ℕ → List ℕ → Result ℕ MapFault → Type 0
+QueueAfter g z marks queue queue' (Ok count) = Flooded g z marks queue queue' count
+QueueAfter g z marks queue queue' (Err f) = queue' ≡ queue

@@ -1,6 +1,5 @@
 -- What a reach call answers, and the sheet that it writes. Assumes nothing.
 use Rattle.std.specs.Prelude.{ℕ, Bool, cond, List, [], ◌∷◌, ◌++◌, length, Result, ◌==◌, slice_set}
-use Rattle.std.specs.Borrow.{Bor}
 use Rattle.criteria.specs.Criteria.{Judgement}
 use Rattle.criteria.specs.declared.fault.MapFault.{MapFault}
 use Rattle.criteria.specs.declared.fault.MapFault.TheVariants.{Misfit}
@@ -22,9 +21,9 @@ reach_checks j map pixel sheet marks queue =
     pixel_check map pixel ∷ sheet_check map sheet ∷ scratch_checks map marks queue ++ admission_check j map ∷ []
 
 -- what it answers
-abbrev pub reach_answer : {V : Type 0} → Judgement V → Map V → ℕ → Bor (List ℕ) → Bor (List ℕ) → Bor (List ℕ) → Result Unit MapFault
+abbrev pub reach_answer : {V : Type 0} → Judgement V → Map V → ℕ → List ℕ → List ℕ → List ℕ → Result Unit MapFault
 reach_answer j map pixel sheet marks queue =
-    answered (first_fault (reach_checks j map pixel sheet.now marks.now queue.now)) tt
+    answered (first_fault (reach_checks j map pixel sheet marks queue)) tt
 
 -- the sheet of a test: for each pixel 1 where it passes, and else 0
 abbrev pub sheet_of : ℕ → (ℕ → Bool) → List ℕ

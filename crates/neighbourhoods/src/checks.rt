@@ -39,7 +39,7 @@ pub(crate) fn check_flood<V>(
     marks: &[u8],
     queue: &[u32],
 ) -> Result<(), MapFault>
-    ensures { result ≡ answered (flood_fault map.now z marks.entry queue.entry) tt }
+    ensures { result ≡ answered (flood_fault map.now z marks.now queue.now) tt }
 {
     check_pixel(map, z)?;
     check_scratch(map, marks, queue)
@@ -54,7 +54,7 @@ pub(crate) fn check_reach<C: Criterion>(
     marks: &[u8],
     queue: &[u32],
 ) -> Result<(), MapFault>
-    ensures { result ≡ reach_answer (C.judgement criterion.now) map.now pixel sheet.entry marks.entry queue.entry }
+    ensures { result ≡ reach_answer (C.judgement criterion.now) map.now pixel sheet.now marks.now queue.now }
 {
     check_pixel(map, pixel)?;
     if sheet.len() != map.pixels() {

@@ -26,7 +26,7 @@ fn visit<C: Criterion>(
 ) -> usize
     requires pixel { (pixel < served (length marks.old)) × (pixel < 2 ^ 32) }
     requires room { free marks.old pixel ≡ true → found < length queue.old }
-    ensures { finds marks.exit queue.exit result ≡ visited ((C.judgement criterion.now).near centre value) pixel (finds marks.entry queue.entry found) }
+    ensures { finds marks.new queue.new result ≡ visited ((C.judgement criterion.now).near centre value) pixel (finds marks.old queue.old found) }
 {
     if is_free(marks, pixel) && criterion.near(centre, value) {
         put(marks, pixel);
@@ -48,8 +48,8 @@ fn expand<C: Criterion>(
     found: usize,
 ) -> usize
     requires pixel { pixel < pixels_of map.now }
-    requires room { Room (pixels_of map.now) (finds marks queue found) }
-    ensures { finds marks.exit queue.exit result ≡ expanded (C.judgement criterion.now) map.now centre pixel (finds marks.entry queue.entry found) }
+    requires room { Room (pixels_of map.now) (finds marks.old queue.old found) }
+    ensures { finds marks.new queue.new result ≡ expanded (C.judgement criterion.now) map.now centre pixel (finds marks.old queue.old found) }
 {
     let place = Place::of(pixel, map);
     let mut count = found;
@@ -73,8 +73,8 @@ fn expand_queued<C: Criterion>(
     found: usize,
 ) -> usize
     requires queued { (place < length queue.old) × (slice_index queue.old place < pixels_of map.now) }
-    requires room { Room (pixels_of map.now) (finds marks queue found) }
-    ensures { finds marks.exit queue.exit result ≡ expanded_at (C.judgement criterion.now) map.now centre place (finds marks.entry queue.entry found) }
+    requires room { Room (pixels_of map.now) (finds marks.old queue.old found) }
+    ensures { finds marks.new queue.new result ≡ expanded_at (C.judgement criterion.now) map.now centre place (finds marks.old queue.old found) }
 {
     let pixel = queue[place] as usize;
     expand(criterion, map, centre, pixel, marks, queue, found)
@@ -101,7 +101,7 @@ fn spread<C: Criterion>(
 ) -> usize
     requires pixel { z < pixels_of map.now }
     requires room { (pixels_of map.now ≤ served (length marks.old)) × (pixels_of map.now ≤ length queue.old) }
-    ensures { SpreadOut (ground (C.judgement criterion.now) map.now) z marks.old queue.old (finds marks.exit queue.exit result) }
+    ensures { SpreadOut (ground (C.judgement criterion.now) map.now) z marks.old queue.old (finds marks.new queue.new result) }
 {
     let centre = map.values()[z];
     let mut found = visit(criterion, centre, centre, z, marks, queue, 0);
@@ -140,9 +140,9 @@ pub fn flood<C: Criterion>(
     marks: &mut [u8],
     queue: &mut [u32],
 ) -> Result<usize, MapFault>
-    ensures answer { result_err result ≡ flood_fault map.now z marks.entry queue.entry }
+    ensures answer { result_err result ≡ flood_fault map.now z marks.old queue.old }
     ensures marks_kept { marks.new ≡ marks.old }
-    ensures queue_after { QueueAfter (ground (C.judgement criterion.now) map.now) z marks.entry queue.entry queue.exit result }
+    ensures queue_after { QueueAfter (ground (C.judgement criterion.now) map.now) z marks.old queue.old queue.new result }
 {
     check_flood(map, z, marks, queue)?;
     Ok(flood_within(criterion, map, z, marks, queue))

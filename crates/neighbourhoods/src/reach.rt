@@ -67,7 +67,7 @@ pub fn reach_weak<C: Criterion>(
     marks: &mut [u8],
     queue: &mut [u32],
 ) -> Result<(), MapFault>
-    ensures answer { result ≡ reach_answer (C.judgement criterion.now) map.now pixel sheet.entry marks.entry queue.entry }
+    ensures answer { result ≡ reach_answer (C.judgement criterion.now) map.now pixel sheet.old marks.old queue.old }
     ensures sheet_after { sheet.new ≡ left_by result (weak_sheet (ground (C.judgement criterion.now) map.now) pixel) sheet.old }
     ensures marks_cleared { marks.new ≡ zeros (length marks.old) }
     ensures queue_cleared { queue.new ≡ zeros (length queue.old) }
@@ -88,7 +88,7 @@ pub fn reach_symmetric<C: Criterion>(
     marks: &mut [u8],
     queue: &mut [u32],
 ) -> Result<(), MapFault>
-    ensures answer { result ≡ reach_answer (C.judgement criterion.now) map.now pixel sheet.entry marks.entry queue.entry }
+    ensures answer { result ≡ reach_answer (C.judgement criterion.now) map.now pixel sheet.old marks.old queue.old }
     ensures sheet_after { sheet.new ≡ left_by result (symmetric_sheet (ground (C.judgement criterion.now) map.now) pixel) sheet.old }
     ensures marks_cleared { marks.new ≡ zeros (length marks.old) }
     ensures queue_cleared { queue.new ≡ zeros (length queue.old) }

@@ -10,8 +10,8 @@ loop-index-preserved c =
     let ys = c.args.second.now in
     let more = differing_more l.index xs ys (omega arith) (omega (arith, c.requires)) in
     elim c.if-value-second.branch [
-      | then-value-second w ↦ let one = other_pixel (get_or xs l.index 0) (get_or ys l.index 0) l.count w.if-value-second.true in (omega (arith, w.count_is), omega (arith, w.count_is))
-      | else-value-second w ↦ let none = same_pixel (get_or xs l.index 0) (get_or ys l.index 0) l.count w.if-value-second.false in (omega (arith, w.count_is), omega (arith, w.count_is))
+      | then-value-second w ↦ let one = other_pixel (get_or xs l.index 0) (get_or ys l.index 0) l.count w.if-value-second.true in (omega (arith, w.count-is), omega (arith, w.count-is))
+      | else-value-second w ↦ let none = same_pixel (get_or xs l.index 0) (get_or ys l.index 0) l.count w.if-value-second.false in (omega (arith, w.count-is), omega (arith, w.count-is))
     ]
 
 pub returns : goal.returns

@@ -7,7 +7,7 @@ use Rattle.neighbourhoods.proofs.Stepping.{row_inside, column_inside}
 use Rattle.neighbourhoods.proofs.Rooms.{room_left}
 use Rattle.neighbourhoods.proofs.Visiting.{before_steps, no_pixel, step_inside, to_pixel, after_steps}
 use Rattle.neighbourhoods.proofs.floods.expand.Goals as goal
-use Rattle.neighbourhoods.proofs.floods.expand.Goals.{in-Some, in-default}
+use Rattle.neighbourhoods.proofs.floods.expand.Goals.{in-Some, in_default}
 
 pub loop-step-init : goal.loop-step-init
 loop-step-init g c = before_steps _ _ _ _ _ _ c.requires.room
@@ -22,8 +22,8 @@ after-requires g c =
     let at = c.of-place.ensures in
     record { place = (omega (arith, ap (λ x. x.row) at), omega (arith, ap (λ x. x.column) at)); sides = (t.width_fits, t.height_fits) }
 
-pub offset-bounds-values-next : goal.offset-bounds-values-next
-offset-bounds-values-next g c =
+pub offset_bounds-values-next : goal.offset_bounds-values-next
+offset_bounds-values-next g c =
     let inside = step_inside _ _ _ _ _ _ c.steps-step-items.ensures c.of-place.ensures c.loop-step.invariant _ c.loop-step-test.true c.requires.pixel c.in-Some.ensures in
     omega (arith, c.args.map.now.full, ap length c.values.ensures)
 
@@ -49,12 +49,12 @@ loop-step-preserved g c =
           let inside : q < m.width * m.height = step_inside _ _ _ _ _ _ c.steps-step-items.ensures c.of-place.ensures c.loop-step.invariant _ c.loop-step-test.true c.requires.pixel w.in-Some.ensures in
           let in-values : q < length w.values.result.now = omega (arith, m.full, ap length w.values.ensures) in
           let value = subst (λ xs. At xs q w.index-values-next.result) w.values.ensures (at_read w.values.result.now q _ in-values w.index-values-next.is) in
-          rw (w.marks-is, w.queue-is, w.count_is)
+          rw (w.marks-is, w.queue-is, w.count-is)
           (to_pixel _ _ _ _ _ _ c.steps-step-items.ensures c.of-place.ensures c.loop-step.invariant _ c.loop-step-test.true w.in-Some.ensures inside
           (passes_at (j.near c.args.centre) value) w.visit-count.ensures)
-      | in-default w ↦
-          rw (w.marks-is, w.queue-is, w.count_is)
-          (no_pixel _ _ _ _ _ _ c.steps-step-items.ensures c.of-place.ensures c.loop-step.invariant _ c.loop-step-test.true w.in-default.ensures)
+      | in_default w ↦
+          rw (w.marks-is, w.queue-is, w.count-is)
+          (no_pixel _ _ _ _ _ _ c.steps-step-items.ensures c.of-place.ensures c.loop-step.invariant _ c.loop-step-test.true w.in_default.ensures)
     ]
 
 pub returns : goal.returns

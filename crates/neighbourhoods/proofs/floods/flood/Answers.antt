@@ -4,7 +4,7 @@ use Rattle.neighbourhoods.proofs.floods.flood.Goals as goal
 
 pub returns : goal.returns
 returns g c = record {
-  answer = sym (no_fault _ tt c.in-ok-check-flood.ensures);
-  marks_kept = c.flood-within.ensures.marks_kept;
-  queue-after = c.flood-within.ensures.flooded;
+  answer = sym (no_fault _ tt c.in_ok-check_flood.ensures);
+  marks_kept = c.flood_within.ensures.marks_kept;
+  queue_after = c.flood_within.ensures.flooded;
 }

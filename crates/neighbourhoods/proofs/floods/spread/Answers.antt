@@ -14,13 +14,13 @@ loop-done-init g c =
     let s = started _ m z read c.args.marks.now c.args.queue.now c.requires.pixel c.requires.room.0 c.requires.room.1 c.visit-found.ensures in
     loop_starts _ m z read s
 
-pub expand-queued-found-requires : goal.expand-queued-found-requires
-expand-queued-found-requires g c =
+pub expand_queued-found-requires : goal.expand_queued-found-requires
+expand_queued-found-requires g c =
     let safe = c.loop-done.invariant.safe in
     record { queued = (safe.queued c.loop-done-test.true, safe.pixel_inside c.loop-done-test.true); room = safe.room }
 
-pub overflow-add-done : goal.overflow-add-done
-overflow-add-done g c =
+pub overflow_add-done : goal.overflow_add-done
+overflow_add-done g c =
     let t = tile_of_map c.args.map.now c.args.z c.requires.pixel in
     omega (arith, c.loop-done.invariant.safe.count_fits, t.pixels_fit, c.loop-done-test.true)
 
@@ -34,7 +34,7 @@ loop-done-preserved g c =
     let in-values : z < length c.values.result.now = omega (arith, m.full, ap length c.values.ensures, c.requires.pixel) in
     let read = subst (λ xs. At xs z c.index-values-z.result) c.values.ensures (at_read c.values.result.now z _ in-values c.index-values-z.is) in
     let s = started _ m z read c.args.marks.now c.args.queue.now c.requires.pixel c.requires.room.0 c.requires.room.1 c.visit-found.ensures in
-    loop_turns _ m z read s c.loop-done.invariant c.loop-done-test.true c.expand-queued-found.ensures
+    loop_turns _ m z read s c.loop-done.invariant c.loop-done-test.true c.expand_queued-found.ensures
 
 pub returns : goal.returns
 returns g c =

@@ -15,8 +15,8 @@ loop-z-init g c =
     let clean : c.fill.new.slice ≡ zeros (pixels_of c.args.map.now) = c.fill.ensures ∙ ap zeros c.requires.pixel.1 in
     (refl, subst (Shows (pixels_of c.args.map.now) (Held here c.args.pixel 0)) (sym clean) (none_held here c.args.pixel))
 
-pub flood-within-count-requires : goal.flood-within-count-requires
-flood-within-count-requires g c =
+pub flood_within-count-requires : goal.flood_within-count-requires
+flood_within-count-requires g c =
     let same : length c.args.marks.now ≡ length c.loop-z.marks = omega arith in
     record {
       pixel = omega (arith, c.loop-z-test.true, c.pixels-z-end.ensures);
@@ -24,19 +24,19 @@ flood-within-count-requires g c =
     }
 
 pub lists-requires : goal.lists-requires
-lists-requires g c = c.flood-within-count.ensures.flooded.within
+lists-requires g c = c.flood_within-count.ensures.flooded.within
 
 pub draw-requires : goal.draw-requires
 draw-requires g c =
-    let flooded = c.flood-within-count.ensures.flooded in
+    let flooded = c.flood_within-count.ensures.flooded in
     record { listed = flooded.within; inside = λ i early. omega (arith, listed_inside flooded i early, c.loop-z.invariant.1.size) }
 
 pub loop-z-preserved : goal.loop-z-preserved
 loop-z-preserved g c =
-    let flooded = c.flood-within-count.ensures.flooded in
-    let clear = cleared _ (pixels_of c.args.map.now) (c.loop-z.invariant.0 ∙ c.clear-all.ensures) in
+    let flooded = c.flood_within-count.ensures.flooded in
+    let clear = cleared _ (pixels_of c.args.map.now) (c.loop-z.invariant.0 ∙ c.clear_all.ensures) in
     let here = ground (g.C.Criterion.judgement c.args.criterion.now) c.args.map.now in (
-      c.flood-within-count.ensures.marks_kept ∙ c.loop-z.invariant.0,
+      c.flood_within-count.ensures.marks_kept ∙ c.loop-z.invariant.0,
       elim c.if-lists.branch [
         | then-lists w ↦ rw (w.sheet-is, w.draw.ensures) (flood_drawn flooded clear c.loop-z.invariant.1 (w.if-lists.ensures.0 refl))
         | else-lists w ↦ rw w.sheet-is (flood_passed flooded clear c.loop-z.invariant.1 (λ i. false≢true (w.if-lists.ensures.1 i)))
