@@ -9,7 +9,7 @@ use scales::Measured;
 // The sum over all pixels of the gap of the first picture over the second.
 fn sum_gaps<S: Measured>(first: &[S], second: &[S]) -> u32
     requires { (length first.now ≡ length second.now) × (length first.now ≤ 4096) }
-    ensures { result ≡ gap_sum excess first.now second.now }
+    ensures { result ≡ gap_sum S.excess first.now second.now }
 {
     let mut sum = 0;
     for i in 0..first.len() {
@@ -21,7 +21,7 @@ fn sum_gaps<S: Measured>(first: &[S], second: &[S]) -> u32
 // How far the first picture lies above the second, over all pixels.
 pub fn residue<S: Measured>(first: &[S], second: &[S]) -> Result<u32, BenchFault>
     ensures { result ≡ answered (first_fault (residue_checks (length first.now) (length second.now)))
-        (gap_sum excess first.now second.now) }
+        (gap_sum S.excess first.now second.now) }
 {
     if first.len() < 1 || first.len() > 4096 {
         return Err(BenchFault::Tile);

@@ -9,26 +9,26 @@ use Rattle.bench.specs.Checks.{handed_checks, level_checks}
 use Rattle.bench.proofs.Passing.{the_value, refused_early, refused_late, accepted_by_all}
 use Rattle.bench.proofs.calls.attempt.Goals as goal
 
-pub returns-in-err-check-handed : goal.returns-in-err-check-handed
-returns-in-err-check-handed g c =
+pub returns-in_err-check_handed : goal.returns-in_err-check_handed
+returns-in_err-check_handed g c =
     let b = c.args.bench.now in
     let j = g.C.Criterion.judgement c.args.criterion.now in
     let call = calling c.args.operation c.args.size in
     let room = room_of c.args.marks.now c.args.queue.now c.args.spare.now in
     let handed = handed_checks j c.args.map.now b.tile (length c.args.picture.now) room in
     let later = level_checks call b.levels.present b.count in
-    let p = err_from_is_err_and c.from-residual.result c.from-residual.ensures.1 in
+    let p = err_from_is_err_and c.from_residual.result c.from_residual.ensures.1 in
     rw (p.1, p.2)
     (record {
-      answer_is = refused_early handed later tt (moved call b.levels).present c.in-err-check-handed.ensures.answer;
+      answer_is = refused_early handed later tt (moved call b.levels).present c.in_err-check_handed.ensures.answer;
       levels_are = refl;
       count_is = refl;
       tile_stays = refl;
       picture_is = refl;
     })
 
-pub returns-in-err-levels : goal.returns-in-err-levels
-returns-in-err-levels g c =
+pub returns-in_err-levels : goal.returns-in_err-levels
+returns-in_err-levels g c =
     let b = c.args.bench.now in
     let j = g.C.Criterion.judgement c.args.criterion.now in
     let call = calling c.args.operation c.args.size in
@@ -36,12 +36,12 @@ returns-in-err-levels g c =
     let handed = handed_checks j c.args.map.now b.tile (length c.args.picture.now) room in
     let later = level_checks call b.levels.present b.count in
     let after = moved call b.levels in
-    let back = c.from-residual-in-err-levels in
+    let back = c.from_residual-in_err-levels in
     let p = err_from_is_err_and back.result back.ensures.1 in
-    let e = c.in-err-levels.ensures in
+    let e = c.in_err-levels.ensures in
     rw (p.1, p.2)
     (record {
-      answer_is = refused_late handed later tt after after.present c.in-ok-check-handed.ensures.answer e.answer;
+      answer_is = refused_late handed later tt after after.present c.in_ok-check_handed.ensures.answer e.answer;
       levels_are = e.levels;
       count_is = e.count;
       tile_stays = e.tile;
@@ -57,13 +57,13 @@ returns g c =
     let handed = handed_checks j c.args.map.now b.tile (length c.args.picture.now) room in
     let later = level_checks call b.levels.present b.count in
     let after = moved call b.levels in
-    let e = c.in-ok-levels.ensures in
-    let l = c.in-ok-levels.levels in
+    let e = c.in_ok-levels.ensures in
+    let l = c.in_ok-levels.levels in
     let present : to_z w8 (of_z w8 l.present) ≡ after.present =
     to_z-of_z w8 l.present (search rules) ∙ ap (λ (k : Levels). k.present) (the_value (first_fault later) after e.answer) in
     record {
       answer_is =
-          ap Ok present ∙ accepted_by_all handed later tt after after.present c.in-ok-check-handed.ensures.answer e.answer;
+          ap Ok present ∙ accepted_by_all handed later tt after after.present c.in_ok-check_handed.ensures.answer e.answer;
       levels_are = e.levels;
       count_is = e.count;
       tile_stays = e.tile;

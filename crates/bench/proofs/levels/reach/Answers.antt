@@ -16,10 +16,10 @@ returns c =
     let lowest : to_z w8 (of_z w8 l.lowest) ≡ l.lowest = to_z-of_z w8 l.lowest (search rules) in
     let highest : to_z w8 (of_z w8 l.highest) ≡ l.highest = to_z-of_z w8 l.highest (search rules) in
     let at : to_z w8 (of_z w8 c.rest.result) ≡ left_at o t l.present =
-    to_z-of_z w8 c.rest.result (record { sfits = c.rest.type-inv }) ∙ (rw (level, present) at c.rest.ensures) in
+    to_z-of_z w8 c.rest.result (record { sfits = c.rest.type_inv }) ∙ (rw (level, present) at c.rest.ensures) in
     let down : to_z w8 (of_z w8 c.min.result) ≡ int_min l.lowest t =
-    to_z-of_z w8 c.min.result (record { sfits = c.min.type-inv }) ∙ (rw (level, lowest) at c.min.ensures.value) in
+    to_z-of_z w8 c.min.result (record { sfits = c.min.type_inv }) ∙ (rw (level, lowest) at c.min.ensures.value) in
     let up : to_z w8 (of_z w8 c.max.result) ≡ int_max l.highest t =
-    to_z-of_z w8 c.max.result (record { sfits = c.max.type-inv }) ∙ (rw (level, highest) at c.max.ensures.value) in
+    to_z-of_z w8 c.max.result (record { sfits = c.max.type_inv }) ∙ (rw (level, highest) at c.max.ensures.value) in
     let value = same_levels at down up in
     record { value = value; inside = subst Inside (sym value) (stays_inside o t l c.requires.inside c.requires.level.0 c.requires.level.1) }
