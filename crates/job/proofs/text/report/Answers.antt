@@ -6,9 +6,9 @@ use Rattle.job.proofs.text.report.Goals as goal
 pub returns-in-Ok : goal.returns-in-Ok
 returns-in-Ok c =
     let read = text_from_start _ c.args.job.now _ c.new-reader.ensures c.in-Ok.ensures in
-    IfOk-weaker c.sound-report.result _ _ (λ text e. e ∙ read) c.sound-report.ensures
+    IfOk-weaker c.sound_report.result _ _ (λ text e. e ∙ read) c.sound_report.ensures
 
 pub returns-in-Err : goal.returns-in-Err
 returns-in-Err c =
     let read = text_from_start _ c.args.job.now _ c.new-reader.ensures c.in-Err.ensures in
-    IfOk-weaker c.fault-report.result _ _ (λ text e. e ∙ read) c.fault-report.ensures
+    IfOk-weaker c.fault_report.result _ _ (λ text e. e ∙ read) c.fault_report.ensures

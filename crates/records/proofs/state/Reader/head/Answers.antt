@@ -11,7 +11,7 @@ invariant-of-self c =
     let bs = c.args.bytes.now in
     let h : Head = record { width = get_or bs 1 0; height = get_or bs 2 0; joining = get_or bs 3 0; shape = c.args.shape; limit = get_or bs 5 0 } in
     let p = head_passes h c.args.number c.in-ok-count.count (sym (c.in-ok-count.ensures ∙ ap (with_record c.args.number) c.check.ensures)) in
-    (p.area, (p.small, (p.sound, (p.some, tt))))
+    record { area = p.area; small = p.small; sound = p.sound; within = p.some }
 
 pub returns-in-err-count : goal.returns-in-err-count
 returns-in-err-count c =
