@@ -1,20 +1,32 @@
 -- Dilation and erosion over the symmetric neighbourhoods. Assumes nothing.
-use Rattle.std.proofs.Common.{◌≡◌, ◌<◌, List, length, sym, ◌∙◌, subst}
+use Rattle.std.proofs.Common.{◌≡◌, ℕ, ◌<◌, ◌⊎◌, List, length, sym, ◌∙◌, subst, inl, inr}
 use Rattle.scales.specs.Scales.{Grading, Lattice}
 use Rattle.morphology.specs.Algebra.{Adjunction}
+use Rattle.morphology.specs.Bounds.{JoinOf}
 use Rattle.morphology.specs.Neighbourhoods.{Ground, pixels, NearItself}
 use Rattle.morphology.specs.Tables.{symmetric}
-use Rattle.morphology.specs.Pictures.{Under, Dilated, operator, dilation, erosion}
+use Rattle.morphology.specs.Pictures.{At, Under, Around, Dilated, operator, dilation, erosion}
 use Rattle.morphology.specs.Theorems.{LawsOfOperators}
 use Rattle.morphology.proofs.Bounds.{turned_lattice, join_under, join_same}
 use Rattle.morphology.proofs.Tables.{symmetric_sound, symmetric_complete, symmetric_back, symmetric_itself}
-use Rattle.morphology.proofs.Pictures.{at_bound, each_length, under_from, picture_order, gathered_joins, gathered_adjoint}
+use Rattle.morphology.proofs.Pictures.{at_bound, each_length, under_from, picture_order, gathered_joins, gathered_joins_own, gathered_adjoint}
 
 pub operator_length : {V : Type 0} (op : V → V → V) (g : Ground) (f : List V) → length (operator op g f) ≡ length f
 unfolding operator
 operator_length op g f = each_length _ f
 
 module _ {V : Type 0} {scale : Grading V} (L : Lattice scale) (g : Ground) where
+  -- each pixel gets the join of its own value and of those over its symmetric neighbourhood
+  pub dilation_joins : (f : List V) (x : ℕ) (b : V) → At (dilation scale g f) x b → JoinOf scale (λ u. At f x u ⊎ Around g f x u) b
+  unfolding operator
+  dilation_joins f x b at = join_same
+      (λ u h. elim h [
+        | inl own ↦ inl own
+        | inr a ↦ inr (record { pixel = a.0; neighbour = symmetric_sound g x a.0 a.1; value = a.2 })
+      ])
+      (λ u h. elim h [ inl own ↦ inl own | inr a ↦ inr (a.pixel, symmetric_complete g a.neighbour, a.value) ])
+      (gathered_joins_own L (symmetric g) f x b at)
+
   pub dilation_is : {f : List V} → NearItself g → length f ≡ pixels g → Dilated scale g f (dilation scale g f)
   unfolding operator
   dilation_is {f} near size = record {

@@ -1,12 +1,12 @@
 -- Pictures, and the operators over any relation of pixels that is the same both ways. Assumes nothing.
-use Rattle.std.proofs.Common.{◌≡◌, ℕ, zero, suc, ◌<◌, Bool, true, false, cond, List, [], ◌∷◌, length, sym, refl, ap, ◌∙◌, subst, ap₂, arith}
+use Rattle.std.proofs.Common.{◌≡◌, ℕ, zero, suc, ◌<◌, ◌⊎◌, inl, inr, Bool, true, false, cond, List, [], ◌∷◌, length, sym, refl, ap, ◌∙◌, subst, ap₂, arith}
 use native.Mathlib.Nat.{suc_inj}
 use Rattle.std.proofs.lemmas.Bool.{false≢true}
 use Rattle.scales.specs.Scales.{Grading, Order, Lattice}
 use Rattle.morphology.specs.Bounds.{turned, JoinOf}
 use Rattle.morphology.specs.Algebra.{Adjunction}
 use Rattle.morphology.specs.Pictures.{At, here, later, Under, none, both, each, gather, gathered}
-use Rattle.morphology.proofs.Bounds.{turned_lattice}
+use Rattle.morphology.proofs.Bounds.{turned_lattice, join_under}
 
 module _ {V : Type 0} where
   pub at_bound : {f : List V} {i : ℕ} {v : V} → At f i v → i < length f
@@ -76,6 +76,14 @@ picture_order L = record {
 }
 
 module _ {V : Type 0} {scale : Grading V} (L : Lattice scale) where
+  -- a picture is known by its size and by what each of its pixels joins
+  pub same_joins : {Has : ℕ → V → Type 0} {r s : List V} → length r ≡ length s →
+      ((x : ℕ) (b : V) → At r x b → JoinOf scale (Has x) b) → ((x : ℕ) (b : V) → At s x b → JoinOf scale (Has x) b) → r ≡ s
+  same_joins {r = r} {s = s} size p q =
+      (picture_order L).antisymmetric
+      (under_from r s size (λ x a b at-r at-s. join_under (p x a at-r) (q x b at-s)))
+      (under_from s r (sym size) (λ x b a at-s at-r. join_under (q x b at-s) (p x a at-r)))
+
   above_rest : (b : Bool) (u r : V) → scale.below r (cond b (scale.join u r) r)
   above_rest true u r = L.join_right u r
   above_rest false u r = L.order.reflexive r
@@ -126,6 +134,21 @@ module _ {V : Type 0} {scale : Grading V} (L : Lattice scale) where
           above = λ u has. subst (scale.below u) own.2 (gather_above (reach x) own.0 has.1 has.2);
           least = λ c all. subst (λ s. scale.below s c) own.2
               (gather_least (reach x) own.0 f (all own.0 (x, self, own.1)) (λ y u t at. all u (y, t, at)));
+        }
+
+    -- the join of the pixel's own value and of those that it reaches
+    pub gathered_joins_own : (f : List V) (x : ℕ) (b : V) → At (gathered scale.join reach f) x b →
+        JoinOf scale (λ u. At f x u ⊎ ((y : ℕ) × (reach x y ≡ true) × At f y u)) b
+    gathered_joins_own f x b a =
+        let own = gathered_at f x a in
+        let joined = gather scale.join (reach x) own.0 f in
+        record {
+          above = λ u has. subst (scale.below u) own.2 (elim has [
+            | inl at-x ↦ subst (λ v. scale.below v joined) (at_one own.1 at-x) (gather_own (reach x) own.0 f)
+            | inr reached ↦ gather_above (reach x) own.0 reached.1 reached.2
+          ]);
+          least = λ c all. subst (λ s. scale.below s c) own.2
+              (gather_least (reach x) own.0 f (all own.0 (inl own.1)) (λ y u t at. all u (inr (y, t, at))));
         }
 
     gathered_extends : (f : List V) → Under scale f (gathered scale.join reach f)

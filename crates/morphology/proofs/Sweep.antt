@@ -1,14 +1,14 @@
 -- Dilation computed centre by centre: what a loop over the centres keeps. Erosion is the same with the scale turned. Assumes nothing.
-use Rattle.std.proofs.Common.{◌≡◌, ℕ, ◌+◌, ◌<◌, ◌⊎◌, List, length, refl, subst, inl, inr, arith}
+use Rattle.std.proofs.Common.{◌≡◌, ℕ, ◌+◌, ◌<◌, ◌⊎◌, List, length, refl, sym, ◌∙◌, subst, inl, inr, arith}
 use Rattle.std.proofs.lemmas.Bool.{cases_eq}
 use Rattle.scales.specs.Scales.{Grading, Lattice}
 use Rattle.morphology.specs.Bounds.{JoinOf}
 use Rattle.morphology.specs.Neighbourhoods.{Ground, pixels, Weak, NearItself}
 use Rattle.morphology.specs.Pictures.{At, Around, dilation}
 use Rattle.morphology.proofs.Bounds.{join_same, join_both}
-use Rattle.morphology.proofs.Pictures.{at_bound, at_one}
+use Rattle.morphology.proofs.Pictures.{at_bound, at_one, same_joins}
 use Rattle.morphology.proofs.Tables.{centre_inside, symmetric_itself}
-use Rattle.morphology.proofs.Operators.{dilation_only}
+use Rattle.morphology.proofs.Operators.{operator_length, dilation_joins, dilation_only}
 
 -- the value u stands in f at a pixel of the weak neighbourhood of z
 pub record InWeak {V : Type 0} (g : Ground) (f : List V) (z : ℕ) (u : V) : Type 0 where
@@ -88,9 +88,26 @@ module _ {V : Type 0} {scale : Grading V} (L : Lattice scale) where
         from : (u : V) → Around g f x u → Swept g f (pixels g) x u
         from u r = by_centre (centre_inside r.neighbour.holds_x) r.neighbour.holds_x r.neighbour.holds_y r.value
 
+    -- after the last centre, whether or not the pixels are near themselves
+    swept_whole : {x : ℕ} {b : V} → JoinOf scale (Swept g f (pixels g) x) b → JoinOf scale (λ u. At f x u ⊎ Around g f x u) b
+    swept_whole {x} p = join_same to from p
+      where
+        to : (u : V) → Swept g f (pixels g) x u → At f x u ⊎ Around g f x u
+        to u (own a) = inl a
+        to u (by_centre {z = z} {y = y} h wx wy a) = inr (record { pixel = y; neighbour = record { centre = z; holds_x = wx; holds_y = wy }; value = a })
+
+        from : (u : V) → At f x u ⊎ Around g f x u → Swept g f (pixels g) x u
+        from u (inl a) = own a
+        from u (inr r) = by_centre (centre_inside r.neighbour.holds_x) r.neighbour.holds_x r.neighbour.holds_y r.value
+
     -- a sweep begins with the picture and ends with its dilation
     pub sweep_starts : SweptTo scale g f 0 f
     sweep_starts = record { size = refl; each = λ x b a. swept_none a }
 
     pub sweep_ends : {spare : List V} → NearItself g → length f ≡ pixels g → SweptTo scale g f (pixels g) spare → spare ≡ dilation scale g f
     sweep_ends near size s = dilation_only L g near size (record { size = s.size; joins = λ x b a. swept_all near size (s.each x b a) })
+
+    -- on any ground
+    pub sweep_ends_anywhere : {spare : List V} → SweptTo scale g f (pixels g) spare → spare ≡ dilation scale g f
+    sweep_ends_anywhere s =
+        same_joins L (s.size ∙ sym (operator_length scale.join g f)) (λ x b a. swept_whole (s.each x b a)) (dilation_joins L g f)

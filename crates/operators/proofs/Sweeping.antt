@@ -8,7 +8,7 @@ use Rattle.morphology.specs.Pictures.{At, dilation}
 use Rattle.morphology.proofs.Bounds.{turned_lattice, join_same}
 use Rattle.morphology.proofs.Tables.{weak_inside}
 use Rattle.morphology.proofs.Values.{at_getD}
-use Rattle.morphology.proofs.Sweep.{InWeak, Swept, SweptTo, swept_in, swept_out, sweep_starts, sweep_ends}
+use Rattle.morphology.proofs.Sweep.{InWeak, Swept, SweptTo, swept_in, swept_out, sweep_starts, sweep_ends_anywhere}
 use Rattle.neighbourhoods.specs.Listings.{In, Lists}
 use Rattle.operators.specs.Steps.{towards, Within, Once, OwnOrOver, Over, Put, inside, outside, AllPut, Spread}
 use Rattle.operators.proofs.Listed.{put_same}
@@ -77,7 +77,7 @@ module _ {V : Type 0} {scale : Grading V} (L : Lattice scale) {g : Ground} {f : 
 
   pub sweeping_all : {z : ℕ} {spare : List V} {marks : List ℕ} → z ≡ count g →
       Sweeping scale g f z spare old marks → spare ≡ dilation scale g f
-  sweeping_all {spare = spare} end s = sweep_ends L g f (subst (λ n. SweptTo scale g f n spare) end s.swept)
+  sweeping_all {spare = spare} end s = sweep_ends_anywhere L g f (subst (λ n. SweptTo scale g f n spare) end s.swept)
 
 -- after n operators: the picture has passed through n of them, and the marks are as they were
 pub record Repeated {V : Type 0} (F : List V → List V) (n : ℕ) (f f' : List V) (old marks : List ℕ) : Type 0 where

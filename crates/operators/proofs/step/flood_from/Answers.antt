@@ -1,4 +1,4 @@
-use Rattle.std.proofs.Common.{ℕ, List, subst, MutBor, rules}
+use Rattle.std.proofs.Common.{subst, rules}
 use Rattle.maps.specs.Grounds.{ground}
 use Rattle.maps.specs.Windows.{pixels_of}
 use Rattle.neighbourhoods.specs.Floods.{QueueAfter}
@@ -9,8 +9,7 @@ use Rattle.operators.proofs.step.flood_from.Goals as goal
 pub returns : goal.returns
 returns g c =
     let g' = ground (g.C.Criterion.judgement c.args.criterion.now) c.args.map.now in
-    let queue' : MutBor (List ℕ) = record { ref_ptr = c.args.queue.ptr; ghost_name = c.args.queue.name; now = c.flood.new.queue } in
-    let flooded = subst (QueueAfter g' c.args.z c.args.marks c.args.queue queue') c.unwrap.ensures c.flood.ensures.queue-after in
+    let flooded = subst (QueueAfter g' c.args.z c.args.marks.now c.args.queue.now c.flood.new.queue) c.unwrap.ensures c.flood.ensures.queue_after in
     record {
       count = flooded.within;
       listed = flooded.listed (cleared _ (pixels_of c.args.map.now) c.requires.clear);

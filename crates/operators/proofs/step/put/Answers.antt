@@ -12,7 +12,7 @@ loop-pixel-preserved g c =
     let i = c.loop-pixel.pixel-index in
     let here = at_getD pixels i 0 c.loop-pixel-test.true in
     let within : get_or pixels i 0 < length c.loop-pixel.spare = omega (arith, c.requires.within i c.loop-pixel-test.true) in
-    rw c.put-at.ensures (put_more c.requires.once here within c.loop-pixel.invariant)
+    rw c.put_at.ensures (put_more c.requires.once here within c.loop-pixel.invariant)
 
 pub returns : goal.returns
 returns g c = put_all c.loop-pixel-test.false c.loop-pixel.invariant

@@ -3,8 +3,8 @@ use Rattle.std.proofs.lemmas.Result.{err_from_is_err_and}
 use Rattle.records.proofs.Heads.{tile_refused}
 use Rattle.records.proofs.records.Head.check.Goals as goal
 
-pub returns-in-err-count : goal.returns-in-err-count
-returns-in-err-count c =
+pub returns-in_err-count : goal.returns-in_err-count
+returns-in_err-count c =
     let h = c.args.self in
-    let p = err_from_is_err_and c.from-residual.result c.from-residual.ensures.1 in
-    rw (p.1, p.2) (sym (tile_refused h _ (h.width * h.height) (sym c.in-err-count.ensures)))
+    let p = err_from_is_err_and c.from_residual.result c.from_residual.ensures.1 in
+    rw (p.1, p.2) (sym (tile_refused h _ (h.width * h.height) (sym c.in_err-count.ensures)))
