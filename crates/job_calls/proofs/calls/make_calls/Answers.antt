@@ -12,17 +12,17 @@ loop-index-init g c =
     let s = grey_setting (g.C.Criterion.judgement c.args.criterion.now) c.args.map.now in
     (refl, performed_none s (standing c.args.bench.now c.args.picture.now) (string_bytes c.args.text.now))
 
-pub returns-in-err-make-call : goal.returns-in-err-make-call
-returns-in-err-make-call g c =
+pub returns-in_err-make_call : goal.returns-in_err-make_call
+returns-in_err-make_call g c =
     let l = c.loop-index in
     let s = grey_setting (g.C.Criterion.judgement c.args.criterion.now) c.args.map.now in
-    let t = c.in-err-make-call.ensures in
-    let p = err_from_is_err_and c.from-residual.result c.from-residual.ensures.1 in
-    let after = standing c.make-call.new.bench c.make-call.new.picture in
-    let newer = string_bytes c.make-call.new.text in
-    let tried = subst (λ q. Tried s (c.args.first + l.index) q.next (get_or c.args.records.now l.index []) (standing l.bench l.picture) (string_bytes l.text) (Err c.in-err-make-call.field-0.0) after newer) l.invariant.0 t.tried in
+    let t = c.in_err-make_call.ensures in
+    let p = err_from_is_err_and c.from_residual.result c.from_residual.ensures.1 in
+    let after = standing c.make_call.new.bench c.make_call.new.picture in
+    let newer = string_bytes c.make_call.new.text in
+    let tried = subst (λ q. Tried s (c.args.first + l.index) q.next (get_or c.args.records.now l.index []) (standing l.bench l.picture) (string_bytes l.text) (Err c.in_err-make_call.field-0.0) after newer) l.invariant.0 t.tried in
     record {
-      went = rw (p.1, p.2) (stopped s c.args.first l.index c.args.reader.now.place.next c.args.left c.args.records.now after newer c.in-err-make-call.field-0.0 c.loop-index-test.true l.invariant.1 tried);
+      went = rw (p.1, p.2) (stopped s c.args.first l.index c.args.reader.now.place.next c.args.left c.args.records.now after newer c.in_err-make_call.field-0.0 c.loop-index-test.true l.invariant.1 tried);
       place = t.place ∙ l.invariant.0;
     }
 
@@ -30,21 +30,21 @@ pub loop-index-preserved : goal.loop-index-preserved
 loop-index-preserved g c =
     let l = c.loop-index in
     let s = grey_setting (g.C.Criterion.judgement c.args.criterion.now) c.args.map.now in
-    let t = c.in-ok-make-call.ensures in
+    let t = c.in_ok-make_call.ensures in
     let records = c.args.records.now in
-    let after = standing c.make-call.new.bench c.make-call.new.picture in (
+    let after = standing c.make_call.new.bench c.make_call.new.picture in (
       t.place ∙ l.invariant.0,
-      subst (λ rs. Performed s rs (standing c.args.bench.now c.args.picture.now) (string_bytes c.args.text.now) after (string_bytes c.make-call.new.text)) (sym (take_more records l.index [] c.loop-index-test.true)) (performed_more s l.invariant.1 t.tried),
+      subst (λ rs. Performed s rs (standing c.args.bench.now c.args.picture.now) (string_bytes c.args.text.now) after (string_bytes c.make_call.new.text)) (sym (take_more records l.index [] c.loop-index-test.true)) (performed_more s l.invariant.1 t.tried),
     )
 
-pub returns-in-err-end : goal.returns-in-err-end
-returns-in-err-end g c =
+pub returns-in_err-end : goal.returns-in_err-end
+returns-in_err-end g c =
     let l = c.loop-index in
     let s = grey_setting (g.C.Criterion.judgement c.args.criterion.now) c.args.map.now in
-    let p = err_from_is_err_and c.from-residual-in-err-end.result c.from-residual-in-err-end.ensures.1 in
+    let p = err_from_is_err_and c.from_residual-in_err-end.result c.from_residual-in_err-end.ensures.1 in
     let calls = ap (λ q. q.state) l.invariant.0 ∙ c.requires.state in
     record {
-      went = rw (p.1, p.2) (torn s c.args.first l.index c.args.reader.now.place.next c.args.left c.args.records.now (omega arith) l.invariant.1 l.reader.place.state c.in-err-end.field-0.0 calls c.in-err-end.ensures);
+      went = rw (p.1, p.2) (torn s c.args.first l.index c.args.reader.now.place.next c.args.left c.args.records.now (omega arith) l.invariant.1 l.reader.place.state c.in_err-end.field-0.0 calls c.in_err-end.ensures);
       place = l.invariant.0;
     }
 
@@ -54,6 +54,6 @@ returns g c =
     let s = grey_setting (g.C.Criterion.judgement c.args.criterion.now) c.args.map.now in
     let calls = ap (λ q. q.state) l.invariant.0 ∙ c.requires.state in
     record {
-      went = done_all s c.args.first l.index c.args.reader.now.place.next c.args.left c.args.records.now (omega arith) l.invariant.1 l.reader.place.state tt calls c.in-ok-end.ensures;
+      went = done_all s c.args.first l.index c.args.reader.now.place.next c.args.left c.args.records.now (omega arith) l.invariant.1 l.reader.place.state tt calls c.in_ok-end.ensures;
       place = l.invariant.0;
     }

@@ -10,7 +10,7 @@ returns c =
     let p = c.args.reader.now.place in
     let count : length bs ≡ 8 = search rules in
     let low : byte bs 1 < 256 = search rules in
-    let t = c.in-ok-operation.ensures in
+    let t = c.in_ok-operation.ensures in
     record {
       answer = only_written c.args.number p.state p.next bs _ count low (sym t.answer) ∙ ap (encoded p.next) c.in-Call.is;
       place = search rules;

@@ -8,12 +8,12 @@ pub returns : goal.returns
 returns c =
     let l = c.args.levels in
     let front = string_bytes c.args.text.now in
-    let first = string_bytes c.push-level.new.text in
-    let second = string_bytes c.push-level-2.new.text in
+    let first = string_bytes c.push_level.new.text in
+    let second = string_bytes c.push_level-2.new.text in
     let present : to_z w8 (of_z w8 l.present) ≡ l.present = to_z-of_z w8 l.present (search rules) in
     let lowest : to_z w8 (of_z w8 l.lowest) ≡ l.lowest = to_z-of_z w8 l.lowest (search rules) in
     let highest : to_z w8 (of_z w8 l.highest) ≡ l.highest = to_z-of_z w8 l.highest (search rules) in
     three_pieces front (level_text l.present) (level_text l.lowest) (level_text l.highest) _ _ _
-    (c.in-ok-push-level.ensures ∙ ap (λ z. front ++ level_text z) present)
-    (c.in-ok-push-level-2.ensures ∙ ap (λ z. first ++ level_text z) lowest)
-    (c.in-ok-push-level-3.ensures ∙ ap (λ z. second ++ level_text z) highest)
+    (c.in_ok-push_level.ensures ∙ ap (λ z. front ++ level_text z) present)
+    (c.in_ok-push_level-2.ensures ∙ ap (λ z. first ++ level_text z) lowest)
+    (c.in_ok-push_level-3.ensures ∙ ap (λ z. second ++ level_text z) highest)

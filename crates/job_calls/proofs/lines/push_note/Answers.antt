@@ -7,6 +7,6 @@ pub returns : goal.returns
 returns c =
     let front = string_bytes c.args.text.now in
     let count = codes " " ++ (decimal c.args.count ++ newline) in
-    let third = string_bytes c.push-levels.new.text in
-    three_pieces front (codes "note") (levels_text c.args.levels) count _ _ _ c.in-ok-push-str.ensures.bytes c.in-ok-push-levels.ensures
-    (c.in-ok-push-str-2.ensures.bytes ∙ ap (λ b. third ++ b) (c.deref.ensures ∙ c.in-ok-field.ensures))
+    let third = string_bytes c.push_levels.new.text in
+    three_pieces front (codes "note") (levels_text c.args.levels) count _ _ _ c.in_ok-push_str.ensures.bytes c.in_ok-push_levels.ensures
+    (c.in_ok-push_str-2.ensures.bytes ∙ ap (λ b. third ++ b) (c.deref.ensures ∙ c.in_ok-field.ensures))

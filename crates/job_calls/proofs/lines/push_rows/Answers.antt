@@ -11,8 +11,8 @@ loop-init c =
     let area : (h - 0) * w ≡ w * h = ap (λ n. n * w) (sym all) ∙ mul_comm h w in
     (omega (arith, c.requires), ap (λ n. string_bytes c.args.text.now ++ rows_text w n c.args.picture.now) all)
 
-pub split-at-requires : goal.split-at-requires
-split-at-requires c = (rows_room c.args.width c.loop.counter c.args.height (length c.loop.rest.now) c.loop-test.true c.loop.invariant.0).0
+pub split_at-requires : goal.split_at-requires
+split_at-requires c = (rows_room c.args.width c.loop.counter c.args.height (length c.loop.rest.now) c.loop-test.true c.loop.invariant.0).0
 
 pub loop-preserved : goal.loop-preserved
 loop-preserved c =
@@ -20,9 +20,9 @@ loop-preserved c =
     let h = c.args.height in
     let k = c.loop.counter in
     let room = rows_room w k h (length c.loop.rest.now) c.loop-test.true c.loop.invariant.0 in
-    let cut = c.split-at.ensures in (
+    let cut = c.split_at.ensures in (
       omega (arith, room.1, cut.back_len),
-      rows_push (string_bytes c.args.text.now) (rows_text w h c.args.picture.now) _ _ _ c.loop.rest.now _ w k h c.loop-test.true c.loop.invariant.1 cut.front cut.back c.in-ok-push-row.ensures,
+      rows_push (string_bytes c.args.text.now) (rows_text w h c.args.picture.now) _ _ _ c.loop.rest.now _ w k h c.loop-test.true c.loop.invariant.1 cut.front cut.back c.in_ok-push_row.ensures,
     )
 
 pub returns : goal.returns

@@ -5,7 +5,7 @@ use Rattle.job_calls.proofs.lines.push_spaced.Goals as goal
 
 pub loop-value-preserved : goal.loop-value-preserved
 loop-value-preserved c =
-    spaced_push (string_bytes c.args.text.now) c.args.values.now _ _ _ c.loop-value.value-index c.loop-value-test.true c.loop-value.invariant (c.deref.ensures ∙ c.in-ok-field.ensures) c.in-ok-push-str.ensures.bytes
+    spaced_push (string_bytes c.args.text.now) c.args.values.now _ _ _ c.loop-value.value-index c.loop-value-test.true c.loop-value.invariant (c.deref.ensures ∙ c.in_ok-field.ensures) c.in_ok-push_str.ensures.bytes
 
 pub returns : goal.returns
 returns c =
