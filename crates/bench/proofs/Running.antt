@@ -1,7 +1,7 @@
 -- Any list of calls on a seated picture does what its tally says. Assumes nothing.
 use Rattle.std.proofs.Common.{◌≡◌, ℕ, zero, suc, ◌+◌, true, not, List, [], ◌∷◌, ◌++◌, length, is_some, Some, None, Ok, Err, Option, sym, refl, ap, ◌∙◌, subst, subst₂, arith, eq-eqb}
 use Rattle.scales.specs.Scales.{Grading, Lattice}
-use Rattle.maps.specs.Checks.{Check, first_fault, answered, left_by}
+use Rattle.maps.specs.Checks.{first_fault, answered, left_by}
 use Rattle.maps.specs.Windows.{pixels_of}
 use Rattle.maps.specs.Admission.{inadmissible, admission_check}
 use Rattle.morphology.specs.declared.calls.Levels.{Levels}
@@ -19,7 +19,7 @@ use Rattle.morphology.proofs.Levelling.{levels}
 use Rattle.bench.specs.declared.bench.Bench.{Bench}
 use Rattle.bench.specs.declared.fault.BenchFault.{BenchFault}
 use Rattle.bench.specs.Settings.{Setting, ground_of, Standing, standing, Asked}
-use Rattle.bench.specs.Checks.{from_map, picture_fits, matches, scratch_checks, room_checks, level_checks, filter_checks}
+use Rattle.bench.specs.Checks.{from_map, picture_fits, matches, scratch_checks, level_checks, filter_checks}
 use Rattle.bench.specs.Steps.{operated}
 use Rattle.bench.specs.Calls.{Answer, Filtered, Run, no_call, one_more}
 use Rattle.bench.specs.Tallies as tallies

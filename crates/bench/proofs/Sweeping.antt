@@ -5,7 +5,7 @@ use Rattle.scales.specs.Scales.{Grading, Lattice}
 use Rattle.morphology.specs.Algebra.{times}
 use Rattle.morphology.specs.Bounds.{JoinOf}
 use Rattle.morphology.specs.Neighbourhoods.{Ground, pixels as count, Weak, first, NearItself}
-use Rattle.morphology.specs.Pictures.{At, dilation}
+use Rattle.morphology.specs.Pictures.{dilation}
 use Rattle.morphology.proofs.Bounds.{turned_lattice, join_same}
 use Rattle.morphology.proofs.Pictures.{at_bound}
 use Rattle.morphology.proofs.Tables.{weak_inside}

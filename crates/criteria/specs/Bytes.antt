@@ -1,5 +1,5 @@
 -- The three criteria on bytes: step, tone and turn. Assumes nothing.
-use Rattle.std.specs.Prelude.{ℕ, ◌+◌, ◌-◌, ◌*◌, min, max, Bool, true, ℤ, pos, ◌-ℤ◌, int_le, nat_le, nat_lt}
+use Rattle.std.specs.Prelude.{ℕ, ◌+◌, ◌-◌, ◌*◌, min, max, Bool, true, pos, ◌-ℤ◌, int_le, nat_le, nat_lt}
 use Rattle.std.specs.Int.{int_min}
 use Rattle.criteria.specs.Criteria.{Judgement}
 

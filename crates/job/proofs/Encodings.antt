@@ -1,5 +1,5 @@
 -- Reading and writing a record. Assumes nothing.
-use Rattle.std.proofs.Common.{◌≡◌, ℕ, ◌+◌, ◌*◌, ◌/◌, ◌%◌, ◌<◌, Bool, true, false, cond, ◌&&◌, eqb, List, [], ◌∷◌, length, get_or, Some, None, Ok, Err, Option, Result, sym, refl, ap, ◌∙◌, subst, true≢false, arith}
+use Rattle.std.proofs.Common.{◌≡◌, ℕ, ◌+◌, ◌*◌, ◌/◌, ◌%◌, ◌<◌, Bool, true, false, cond, eqb, List, [], ◌∷◌, length, get_or, Some, None, Ok, Option, sym, refl, ap, ◌∙◌, subst, true≢false, arith}
 use Rattle.std.proofs.lemmas.Bool.{eq-eqb, eqb-true, and_parts}
 use Rattle.maps.specs.Checks.{first_fault}
 use Rattle.job.specs.declared.records.Shape.{Shape}
@@ -8,7 +8,6 @@ use Rattle.job.specs.declared.records.Operation.{Operation}
 use Rattle.job.specs.declared.records.Operation.TheVariants.{Dilate, Erode, Open, Close}
 use Rattle.job.specs.declared.records.Kind.{Kind}
 use Rattle.job.specs.declared.records.Kind.TheVariants as kind
-use Rattle.job.specs.declared.records.Head.{Head}
 use Rattle.job.specs.declared.records.Record.{Record}
 use Rattle.job.specs.declared.records.Record.TheVariants as sound
 use Rattle.job.specs.declared.place.State.{State}

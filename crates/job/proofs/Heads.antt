@@ -1,5 +1,5 @@
 -- The checks of an H. Assumes nothing.
-use Rattle.std.proofs.Common.{◌≡◌, ℕ, ◌*◌, ◌<◌, ◌≤◌, Bool, true, not, ltb, List, [], ◌∷◌, is_some, Some, None, Ok, Err, Option, Result, sym, refl, ap, ◌∙◌, mul-pos, arith}
+use Rattle.std.proofs.Common.{◌≡◌, ℕ, ◌*◌, ◌<◌, ◌≤◌, true, not, ltb, List, [], ◌∷◌, is_some, Some, None, Ok, Err, Option, sym, refl, ap, mul-pos, arith}
 use Rattle.std.proofs.lemmas.Bool.{lt-ltb}
 use Rattle.criteria.specs.declared.fault.MapFault.{MapFault}
 use Rattle.maps.specs.Checks.{first_fault, answered}

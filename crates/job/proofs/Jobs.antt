@@ -1,11 +1,10 @@
 -- What a sound job prints. Assumes nothing.
-use Rattle.std.proofs.Common.{◌≡◌, ℕ, zero, suc, ◌+◌, ◌-◌, ◌*◌, ◌/◌, ◌%◌, ◌<◌, ◌≤◌, Bool, true, false, cond, not, eqb, List, [], ◌∷◌, ◌++◌, length, take, drop, set, replicate, is_some, Some, None, Ok, Err, Option, sym, refl, ap, ◌∙◌, subst, append_assoc, append-nil, mul-pos, mul-suc, add-one, arith, length-append, length-drop}
+use Rattle.std.proofs.Common.{◌≡◌, ℕ, zero, suc, ◌+◌, ◌*◌, ◌/◌, ◌%◌, ◌<◌, ◌≤◌, Bool, true, false, cond, eqb, List, [], ◌∷◌, ◌++◌, length, take, drop, set, replicate, None, Ok, sym, refl, ap, ◌∙◌, subst, mul-pos, mul-suc, arith, length-append, length-drop}
 use lib.Seq.{take-append_seam, drop-append_seam, take-append-le, drop-append-le, set-append_seam, append_snoc}
 use Rattle.std.proofs.lemmas.Bool.{eq-eqb, ne_eqb, both_ways}
 use Rattle.std.specs.Simd.{first_chunks}
 use Rattle.std.specs.List.{concat}
-use Rattle.maps.specs.Checks.{first_fault}
-use Rattle.maps.specs.Admission.{first_not, none_check}
+use Rattle.maps.specs.Admission.{first_not}
 use Rattle.maps.specs.Tiles.{is_tile}
 use Rattle.maps.proofs.Figures.{tile_of}
 use Rattle.maps.proofs.Firsts.{first_not_only}
@@ -15,10 +14,10 @@ use Rattle.job.specs.declared.records.Record.{Record}
 use Rattle.job.specs.declared.records.Record.TheVariants as sound
 use Rattle.job.specs.declared.place.State.TheVariants as state
 use Rattle.job.specs.declared.place.Place.{Place}
-use Rattle.job.specs.Lines.{rows_text, row_text, newline, empty_note, count_text}
-use Rattle.job.specs.Reading.{Progress, Reading, start, taken, progress, progress_after, outcome, at_end, read_on, reading_from, head_checks, head_admits, lay_checks, from_below}
-use Rattle.job.specs.Texts.{fresh, sound_text, reading_text, job_text}
-use Rattle.job.specs.Encoding.{encoded, Comes, head, pixel, call}
+use Rattle.job.specs.Lines.{rows_text, empty_note, count_text}
+use Rattle.job.specs.Reading.{Progress, start, taken, progress, progress_after, outcome, read_on, reading_from, head_admits, lay_checks}
+use Rattle.job.specs.Texts.{fresh, reading_text, job_text}
+use Rattle.job.specs.Encoding.{encoded, head, pixel, call}
 use Rattle.job.specs.Jobs.{Job, Sound, tile_pixels, pixel_records, call_records, records_of, job_bytes, job_lines}
 use Rattle.job.proofs.Checking.{first_passes, passes_here}
 use Rattle.job.proofs.Encodings.{reads_back}

@@ -2,7 +2,6 @@
 use Rattle.std.specs.Prelude.{ℕ, Some, None, Option}
 use Rattle.criteria.specs.declared.fault.Layer.TheVariants as layer
 use Rattle.criteria.specs.declared.fault.Code.{Code}
-use Rattle.bench.specs.declared.fault.BenchFault.{BenchFault}
 use Rattle.bench.specs.Faults.{bench_code}
 use Rattle.job.specs.declared.fault.ReaderFault.{ReaderFault}
 use Rattle.job.specs.declared.fault.ReaderFault.TheVariants.{Torn, Letter, Order, Filler, Bench}

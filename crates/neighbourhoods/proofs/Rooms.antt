@@ -1,7 +1,6 @@
 -- Room in the queue: each pixel that is queued is one free pixel less. Assumes nothing.
 use Rattle.std.proofs.Common.{◌≡◌, ℕ, zero, suc, ◌+◌, ◌<◌, ◌≤◌, Bool, true, false, cond, ◌&&◌, ◌≢◌, List, length, sym, refl, ap, subst, ap₂, inl, inr, arith, length-set}
 use Rattle.std.proofs.lemmas.Bool.{cases_eq, and_parts}
-use Rattle.morphology.specs.Pictures.{here}
 use Rattle.neighbourhoods.specs.Marks.{served, free, marked}
 use Rattle.neighbourhoods.specs.Finds.{Finds, taken_in, visited, count_below, Room}
 use Rattle.neighbourhoods.proofs.Marking.{marked_length, marked_here, marked_elsewhere}

@@ -9,7 +9,6 @@ use Rattle.morphology.specs.declared.calls.Operation.{Operation}
 use Rattle.morphology.specs.declared.calls.Operation.TheVariants.{Dilate, Erode, Open, Close}
 use Rattle.records.specs.declared.records.Kind.{Kind}
 use Rattle.records.specs.declared.records.Kind.TheVariants as kind
-use Rattle.records.specs.declared.records.Head.{Head}
 use Rattle.records.specs.declared.records.Record.{Record}
 use Rattle.records.specs.declared.records.Record.TheVariants as sound
 use Rattle.records.specs.declared.place.State.{State}

@@ -1,5 +1,5 @@
 -- The worked examples of the scales, by computation. Assumes nothing.
-use Rattle.std.proofs.Common.{◌≡◌, ℕ, ◌≤◌, refl, arith}
+use Rattle.std.proofs.Common.{◌≤◌, refl, arith}
 use lib.Count.{ones, ones_in}
 use Rattle.scales.specs.Phases.{mark}
 use Rattle.scales.specs.Examples.{PhaseExamples, ReliefExamples}

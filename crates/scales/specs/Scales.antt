@@ -1,5 +1,5 @@
 -- What a grey scale is, and what a measured scale adds to it. Assumes nothing.
-use Rattle.std.specs.Prelude.{◌≡◌, ℕ, ◌≤◌}
+use Rattle.std.specs.Prelude.{◌≡◌, ℕ}
 
 -- The order, the two operations and the two ends of a kind of value.
 pub record Grading (V : Type 0) : Type 1 where

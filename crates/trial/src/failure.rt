@@ -4,7 +4,7 @@ use criteria::MapFault;
 use std::alloc::AllocError;
 use std::io;
 
-#[derive(Drop)]
+#[derive(Debug, Drop)]
 pub enum Failure {
     Output(io::Error),
     Memory(AllocError),

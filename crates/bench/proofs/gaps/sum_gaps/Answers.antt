@@ -1,4 +1,4 @@
-use Rattle.std.proofs.Common.{◌≡◌, ◌+◌, ◌<◌, ◌≤◌, length, take, sym, ap, ◌∙◌, add-one, arith, take_all, rules}
+use Rattle.std.proofs.Common.{add-one, arith, take_all, rules}
 use Rattle.bench.proofs.Summing.{gap_sum_more}
 use Rattle.bench.proofs.gaps.sum_gaps.Goals as goal
 

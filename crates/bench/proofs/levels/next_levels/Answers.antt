@@ -1,4 +1,4 @@
-use Rattle.std.proofs.Common.{◌≡◌, Ok, sym, refl, ap, ◌∙◌, w8, SFits, to_z, of_z, rules}
+use Rattle.std.proofs.Common.{◌≡◌, Ok, ap, ◌∙◌, w8, to_z, of_z, rules}
 use Rattle.std.proofs.lemmas.Int.{to_z-of_z}
 use Rattle.maps.specs.Checks.{first_fault, answered}
 use Rattle.morphology.specs.Levels.{touched, reached, moved}

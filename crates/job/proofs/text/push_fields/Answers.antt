@@ -1,4 +1,4 @@
-use Rattle.std.proofs.Common.{◌++◌, string_bytes, ◌∙◌}
+use Rattle.std.proofs.Common.{string_bytes, ◌∙◌}
 use Rattle.job.proofs.Texts.{row_push}
 use Rattle.job.proofs.text.push_fields.Goals as goal
 

@@ -1,4 +1,4 @@
-use Rattle.std.proofs.Common.{◌++◌, string_bytes, ap, ◌∙◌, arith, rules}
+use Rattle.std.proofs.Common.{◌++◌, string_bytes, ap, ◌∙◌, rules}
 use Rattle.job.specs.Lines.{newline, row_text}
 use Rattle.job.proofs.Texts.{two_pieces}
 use Rattle.job.proofs.text.push_row.Goals as goal

@@ -1,4 +1,4 @@
-use Rattle.std.proofs.Common.{false, refl, arith}
+use Rattle.std.proofs.Common.{refl, arith}
 use Rattle.std.proofs.lemmas.Bool.{false≢true}
 use Rattle.neighbourhoods.proofs.Listing.{in_head, not_in_head}
 use Rattle.neighbourhoods.proofs.sheets.lists.Goals as goal

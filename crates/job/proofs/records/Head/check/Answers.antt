@@ -1,4 +1,4 @@
-use Rattle.std.proofs.Common.{◌*◌, sym, ◌∙◌}
+use Rattle.std.proofs.Common.{◌*◌, sym}
 use Rattle.std.proofs.lemmas.Result.{err_from_is_err_and}
 use Rattle.job.proofs.Heads.{tile_refused}
 use Rattle.job.proofs.records.Head.check.Goals as goal

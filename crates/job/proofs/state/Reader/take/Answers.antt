@@ -1,4 +1,4 @@
-use Rattle.std.proofs.Common.{◌≡◌, sym, ap, ◌∙◌, rules}
+use Rattle.std.proofs.Common.{sym, ap, ◌∙◌, rules}
 use Rattle.job.specs.Reading.{map_after, picture_after}
 use Rattle.job.proofs.Heads.{head_writes_no_map, head_writes_no_picture}
 use Rattle.job.proofs.state.Reader.take.Goals as goal
