@@ -1,7 +1,7 @@
 #!/usr/bin/env python3
-"""Runs a built filterbench on jobs whose text is known, and fails on the first that differs.
+"""Runs a built filter_calls on jobs whose text is known, and fails on the first that differs.
 
-    tests/jobs.py target/bin/filterbench
+    tests/job_calls.py crates/filter_calls/out/filter_calls
 """
 import random
 import subprocess

@@ -1,7 +1,7 @@
 #!/usr/bin/env python3
 """Runs a built filterbench on jobs whose text is known, and fails on the first that differs.
 
-    tests/jobs.py target/bin/filterbench
+    tests/jobs.py crates/filterbench/out/filterbench
 """
 import random
 import subprocess

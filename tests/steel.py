@@ -1,7 +1,7 @@
 #!/usr/bin/env python3
 """Takes the worked tile of steel from its pictures to its figures, and fails where a step gives something else.
 
-    tests/steel.py target/bin/filterbench target/bin/inclusions
+    tests/steel.py crates/filter_calls/out/filter_calls crates/inclusions/out/inclusions
 """
 import pathlib
 import subprocess

@@ -1,5 +1,5 @@
 #!/usr/bin/env python3
-"""Turns PGM pictures into jobs for filterbench, and what filterbench prints into pictures.
+"""Turns PGM pictures into jobs for filter_calls, and what filter_calls prints into pictures.
 
     tools/pgm.py job MAP.pgm TILE.pgm SHAPE TOLERANCE JOINING CALL.. > OUT.job
     tools/pgm.py rows < OUT.txt > OUT.pgm
@@ -10,17 +10,17 @@ job   writes a job to standard output. Both pictures are PGM (P2 or P5, maxval 2
       number, JOINING 4 or 8. A CALL is a letter and a size: D1 dilates once, E2
       erodes twice, O3 opens by 3, C2 closes by 2. Calls are made in order; without
       any, the tile comes back as it is.
-rows  reads what filterbench printed and writes the tile in it as a P5 picture.
+rows  reads what filter_calls printed and writes the tile in it as a P5 picture.
 png   enlarges a picture SCALE times (1 to 64, by default 8) and writes it as PNG.
 
 For example:
 
     tools/pgm.py job map.pgm tile.pgm step 3 8 O1 > tile.job
-    target/bin/filterbench < tile.job | tools/pgm.py rows > opened.pgm
+    crates/filter_calls/out/filter_calls < tile.job | tools/pgm.py rows > opened.pgm
     tools/pgm.py png opened.pgm opened.png
 
 What cannot be converted is refused with one line on standard error and status 1.
-Whether the numbers make sense (a size of 0, a turn above 90) is for filterbench to say.
+Whether the numbers make sense (a size of 0, a turn above 90) is for filter_calls to say.
 """
 import re
 import struct

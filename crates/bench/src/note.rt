@@ -1,5 +1,5 @@
 // The note of a finished bench.
-ghost use Rattle.std.specs.Prelude.{◌≡◌, pos, negsuc, ◌≤ℤ◌};
+ghost use Rattle.std.specs.Prelude.{◌≡◌, ◌<◌, ◌≤◌, pos, negsuc, ◌≤ℤ◌};
 ghost use Rattle.bench.specs.Notes.{filed, raised};
 
 use crate::bench::Bench;
@@ -15,10 +15,11 @@ pub struct Note {
     ghost ceiling: { levels.highest ≤ℤ pos 64 },
 }
 
-// Nothing may let a note go: only a call that takes it apart ends it.
+// Nothing may let a note of a bench go: its book would have to have more calls than a book holds. Only a call that takes the note
+// apart ends it.
 impl Drop for Note {
     fn drop(self)
-        requires { ⊥ }
+        requires { 60000 < self.count }
     {
         let Note {
             levels: _,
@@ -70,6 +71,7 @@ impl Note {
 pub fn finish(bench: Bench) -> Note
     ensures levels { result.levels ≡ bench.levels }
     ensures book { result.count ≡ bench.count }
+    ensures within { result.count ≤ 60000 }
 {
     Note {
         levels: bench.levels,
