@@ -17,7 +17,7 @@ def output(command, given=b""):
 
 
 def main():
-    filterbench, inclusions = sys.argv[1:]
+    filter_calls, inclusions = sys.argv[1:]
     with tempfile.TemporaryDirectory() as folder:
         output([TOOLS / "steel.py", folder])
         tile, ground = (pathlib.Path(folder) / name for name in ("tile.pgm", "map.pgm"))
@@ -25,7 +25,7 @@ def main():
         figures = output([inclusions], job).decode()
         if figures != FIGURES:
             sys.exit(f"steel: expected {FIGURES!r}, printed {figures!r}")
-        opened = output([TOOLS / "pgm.py", "rows"], output([filterbench], job))
+        opened = output([TOOLS / "pgm.py", "rows"], output([filter_calls], job))
         before, after = tile.read_bytes(), opened
         differing = sum(a != b for a, b in zip(before, after))
         residue = sum(max(a - b, 0) for a, b in zip(before, after))
