@@ -1,7 +1,14 @@
 // A caller that leans on the law over lists of calls, and runs of the bench on the three scales.
 #![tactic(auto)]
 
+ghost use Rattle.std.specs.Prelude.{◌≡◌, length, IfOk, OnOk, OnErr};
+ghost use Rattle.std.specs.Result.{result_err};
+ghost use Rattle.maps.specs.Checks.{first_fault};
 ghost use Rattle.morphology.specs.Pictures.{Under};
+ghost use Rattle.bench.specs.Settings.{setting, room_of};
+ghost use Rattle.bench.specs.Checks.{seat_checks};
+ghost use Rattle.bench.specs.Calls.{Cleared};
+ghost use Rattle.bench_tests.specs.Lowered.{Lowered};
 
 use bench::{Bench, BenchFault, Scratch};
 use criteria::Criterion;
@@ -18,7 +25,13 @@ pub fn lower<C: Criterion, S: Scale>(
     spare: &mut [S],
     size: u8,
 ) -> Result<Bench, BenchFault>
-    ensures { Under S.grading picture.new picture.old }
+    ensures fault { result_err result ≡ first_fault (seat_checks (C.judgement criterion.now) map.now (length picture.old)) }
+    ensures lowered { IfOk result (λ b. Lowered (setting S.grading (C.judgement criterion.now) map.now)
+        size (room_of marks.old queue.old spare.old) picture.old b picture.new) }
+    ensures below { Under S.grading picture.new picture.old }
+    ensures cleared { OnOk result (Cleared S.grading.lowest marks.new queue.new spare.new) }
+    ensures picture_kept { OnErr result (picture.new ≡ picture.old) }
+    ensures scratch_kept { OnErr result ((marks.new ≡ marks.old) × (queue.new ≡ queue.old) × (spare.new ≡ spare.old)) }
 {
     let mut seated = bench::seat(map, criterion, picture)?;
     let scratch = Scratch {
