@@ -17,16 +17,16 @@ impl Tolerance {
     {
         match self {
             Tolerance::Step(_) => {
-                Step::new(self)?;
+                Step::try_from(self)?;
             }
             Tolerance::Tone(_) => {
-                Tone::new(self)?;
+                Tone::try_from(self)?;
             }
             Tolerance::Turn(_) => {
-                Turn::new(self)?;
+                Turn::try_from(self)?;
             }
             Tolerance::Limits(_, _) => {
-                Limits::new(self)?;
+                Limits::try_from(self)?;
             }
         }
         Ok(())

@@ -14,7 +14,7 @@ mod tone;
 mod turn;
 
 pub use criterion::Criterion;
-pub use fault::{Code, Layer, MapFault};
+pub use fault::{Code, Counted, Layer, MapFault, Part};
 pub use reflectance::{Limits, Reflectance, ReflectanceBits};
 pub use step::Step;
 pub use theorems::examples_hold;
@@ -34,7 +34,7 @@ mod tests {
     // Limits 0.25 and 0. The bits of 1.5 are 3fc00000, of 1.75 3fe00000, of 0.5 3f000000.
     #[test]
     fn reflectances_within_limits(rt: HostRuntime) -> Result<(), Fail> {
-        let limits = Limits::new(Tolerance::Limits(0.25, 0.0))?;
+        let limits = Limits::try_from(Tolerance::Limits(0.25, 0.0))?;
         let centre = bits(0x3fc0_0000, 0);
         assert!(rt; limits.near(centre, bits(0x3fe0_0000, 0)));
         assert!(rt; !limits.near(centre, bits(0x3fe0_0000, 0x3f00_0000)));
@@ -44,7 +44,7 @@ mod tests {
     // A NaN and an infinity are not admitted, and near nothing.
     #[test]
     fn any_bits_are_answered(rt: HostRuntime) -> Result<(), Fail> {
-        let limits = Limits::new(Tolerance::Limits(0.25, -0.0))?;
+        let limits = Limits::try_from(Tolerance::Limits(0.25, -0.0))?;
         let nan = bits(0x7fc0_0001, 0);
         let infinite = bits(0x7f80_0000, 0);
         assert!(rt; !limits.admitted(nan) && !limits.near(nan, nan));
@@ -56,13 +56,13 @@ mod tests {
     #[test]
     fn tolerances_are_matched(rt: HostRuntime) {
         assert!(rt;
-            Step::new(Tolerance::Turn(5)).is_err() && Turn::new(Tolerance::Step(5)).is_err()
+            Step::try_from(Tolerance::Turn(5)).is_err() && Turn::try_from(Tolerance::Step(5)).is_err()
         );
         assert!(rt;
-            Turn::new(Tolerance::Turn(90)).is_ok() && Turn::new(Tolerance::Turn(91)).is_err()
+            Turn::try_from(Tolerance::Turn(90)).is_ok() && Turn::try_from(Tolerance::Turn(91)).is_err()
         );
-        assert!(rt; Limits::new(Tolerance::Limits(-1.0, 0.0)).is_err());
-        assert!(rt; Limits::new(Tolerance::Limits(0.0, 1.0 / 0.0)).is_err());
-        assert!(rt; Limits::new(Tolerance::Limits(0.0 / 0.0, 0.0)).is_err());
+        assert!(rt; Limits::try_from(Tolerance::Limits(-1.0, 0.0)).is_err());
+        assert!(rt; Limits::try_from(Tolerance::Limits(0.0, 1.0 / 0.0)).is_err());
+        assert!(rt; Limits::try_from(Tolerance::Limits(0.0 / 0.0, 0.0)).is_err());
     }
 }

@@ -20,10 +20,12 @@ fn may_limit(x: f32) -> bool
     x.is_finite() && x >= 0.0
 }
 
-impl Limits {
-    pub fn new(tolerance: Tolerance) -> Result<Limits, MapFault>
-        ensures { MadeWith (λ c. (c.mean, c.slope)) (limits_of tolerance) result }
-    {
+impl TryFrom<Tolerance> for Limits {
+    type Error = MapFault;
+
+    ghost try_from_gives = { λ t r. MadeWith (λ c. (c.mean, c.slope)) (limits_of t) r };
+
+    fn try_from(tolerance: Tolerance) -> Result<Limits, MapFault> {
         match tolerance {
             Tolerance::Limits(mean, slope) if may_limit(mean) && may_limit(slope) => Ok(Limits {
                 mean,
@@ -34,14 +36,14 @@ impl Limits {
     }
 }
 
-impl ReflectanceBits {
-    // The floats that the bits stand for. Any bits are read: a NaN's give a NaN.
-    fn read(self) -> Reflectance
-        ensures { result ≡ read_back self }
-    {
+// The floats that the bits stand for. Any bits are read: a NaN's give a NaN.
+impl From<ReflectanceBits> for Reflectance {
+    ghost from_gives = { λ b r. r ≡ read_back b };
+
+    fn from(bits: ReflectanceBits) -> Reflectance {
         Reflectance {
-            mean: num::f32_from_bits_with_nan(self.mean),
-            slope: num::f32_from_bits_with_nan(self.slope),
+            mean: num::f32_from_bits_with_nan(bits.mean),
+            slope: num::f32_from_bits_with_nan(bits.slope),
         }
     }
 }
@@ -58,13 +60,13 @@ impl Criterion for Limits {
         and_from _ _ (float_near_itself c.mean m c.mean_is_limit f.0) (float_near_itself c.slope s c.slope_is_limit f.1) };
 
     fn admitted(&self, value: ReflectanceBits) -> bool {
-        let value = value.read();
+        let value = Reflectance::from(value);
         value.mean.is_finite() && value.slope.is_finite()
     }
 
     fn near(&self, centre: ReflectanceBits, value: ReflectanceBits) -> bool {
-        let centre = centre.read();
-        let value = value.read();
+        let centre = Reflectance::from(centre);
+        let value = Reflectance::from(value);
         (centre.mean - value.mean).abs() <= self.mean
             && (centre.slope - value.slope).abs() <= self.slope
     }

@@ -8,15 +8,17 @@ use crate::fault::MapFault;
 use crate::tolerance::Tolerance;
 
 // Bytes that differ by at most a limit are near.
-#[derive(Clone, Copy)]
+#[derive(Clone, Copy, PartialEq, Eq, Debug)]
 pub struct Step {
     limit: u8,
 }
 
-impl Step {
-    pub fn new(tolerance: Tolerance) -> Result<Step, MapFault>
-        ensures { MadeWith (λ c. c.limit) (step_of tolerance) result }
-    {
+impl TryFrom<Tolerance> for Step {
+    type Error = MapFault;
+
+    ghost try_from_gives = { λ t r. MadeWith (λ c. c.limit) (step_of t) r };
+
+    fn try_from(tolerance: Tolerance) -> Result<Step, MapFault> {
         match tolerance {
             Tolerance::Step(limit) => Ok(Step { limit }),
             _ => Err(MapFault::Tolerance),

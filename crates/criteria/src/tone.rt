@@ -8,15 +8,17 @@ use crate::fault::MapFault;
 use crate::tolerance::Tolerance;
 
 // Grey tones whose logarithmic difference is at most a limit are near.
-#[derive(Clone, Copy)]
+#[derive(Clone, Copy, PartialEq, Eq, Debug)]
 pub struct Tone {
     limit: u8,
 }
 
-impl Tone {
-    pub fn new(tolerance: Tolerance) -> Result<Tone, MapFault>
-        ensures { MadeWith (λ c. c.limit) (tone_of tolerance) result }
-    {
+impl TryFrom<Tolerance> for Tone {
+    type Error = MapFault;
+
+    ghost try_from_gives = { λ t r. MadeWith (λ c. c.limit) (tone_of t) r };
+
+    fn try_from(tolerance: Tolerance) -> Result<Tone, MapFault> {
         match tolerance {
             Tolerance::Tone(limit) => Ok(Tone { limit }),
             _ => Err(MapFault::Tolerance),

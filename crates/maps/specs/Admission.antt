@@ -1,6 +1,7 @@
 -- The first value of a map that is not admitted. Assumes nothing.
 use Rattle.std.specs.Prelude.{◌≡◌, ℕ, suc, ◌<◌, Bool, true, false, cond, not, List, [], ◌∷◌, is_some, Some, None, Option, Result}
-use Rattle.std.specs.Option.{option_map, unwrap_or}
+use Rattle.std.specs.List.{position}
+use Rattle.std.specs.Option.{unwrap_or}
 use Rattle.criteria.specs.Criteria.{Judgement}
 use Rattle.criteria.specs.declared.fault.MapFault.{MapFault}
 use Rattle.criteria.specs.declared.fault.MapFault.TheVariants.{Inadmissible}
@@ -15,9 +16,8 @@ pub data FirstNot {V : Type 0} (admits : V → Bool) (values : List V) : Option 
       ((k : ℕ) (u : V) → k < i → At values k u → admits u ≡ true) → FirstNot admits values (Some i)
 
 -- its number, by search from the first pixel on
-unfoldable pub first_not : {V : Type 0} → (V → Bool) → List V → Option ℕ
-first_not admits [] = None
-first_not admits (v ∷ vs) = cond (admits v) (option_map suc (first_not admits vs)) (Some 0)
+abbrev pub first_not : {V : Type 0} → (V → Bool) → List V → Option ℕ
+first_not admits values = position (λ v. not (admits v)) values
 
 -- the first pixel of a map whose value is not admitted
 abbrev pub inadmissible : {V : Type 0} → Judgement V → Map V → Option ℕ

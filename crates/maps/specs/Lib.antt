@@ -1,4 +1,5 @@
 pub mod Checks
+pub mod Joinings
 pub mod Tiles
 pub mod Windows
 pub mod Grounds

@@ -1,7 +1,8 @@
 -- Which tiles there are. Assumes nothing.
 use Rattle.std.specs.Prelude.{ℕ, ◌*◌, Bool, ◌&&◌, ◌||◌, List, [], ◌∷◌, ◌++◌, Result, ◌==◌, nat_le}
 use Rattle.criteria.specs.declared.fault.MapFault.{MapFault}
-use Rattle.criteria.specs.declared.fault.MapFault.TheVariants.{Tile, Joining, Misfit}
+use Rattle.criteria.specs.declared.fault.MapFault.TheVariants as fault
+use Rattle.criteria.specs.declared.fault.Counted.TheVariants as counted
 use Rattle.maps.specs.Checks.{Check, first_fault, answered}
 
 -- a side has 1 to 255 pixels
@@ -18,7 +19,7 @@ is_joining j = j == 4 || j == 8
 
 -- the checks of a tile and its joining
 abbrev pub tile_checks : ℕ → ℕ → ℕ → List (Check MapFault)
-tile_checks w h j = record { holds = is_tile w h; fault = Tile } ∷ record { holds = is_joining j; fault = Joining j } ∷ []
+tile_checks w h j = record { holds = is_tile w h; fault = fault.Tile } ∷ record { holds = is_joining j; fault = fault.Joining j } ∷ []
 
 -- how many pixels a tile has, or what is wrong with it
 abbrev pub tile_answer : ℕ → ℕ → ℕ → Result ℕ MapFault
@@ -26,7 +27,7 @@ tile_answer w h j = answered (first_fault (tile_checks w h j)) (w * h)
 
 -- the checks of a map of this many values
 abbrev pub map_checks : ℕ → ℕ → ℕ → ℕ → List (Check MapFault)
-map_checks w h j count = tile_checks w h j ++ record { holds = (count == w * h); fault = Misfit 1 } ∷ []
+map_checks w h j count = tile_checks w h j ++ record { holds = (count == w * h); fault = fault.Misfit counted.Values } ∷ []
 
 -- the empty map is 0 by 0 with joining 4
 abbrev pub is_empty : ℕ → ℕ → ℕ → Bool

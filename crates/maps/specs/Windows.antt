@@ -1,6 +1,7 @@
 -- What a map shows. Assumes nothing.
 use Rattle.std.specs.Prelude.{ℕ, ◌*◌, List, []}
 use Rattle.maps.specs.declared.map.Map.{Map}
+use Rattle.maps.specs.Joinings.{number_of}
 
 -- one criterion value for each pixel in pixel order, with the tile's sides and the joining
 pub record Window (V : Type 0) : Type 0 where
@@ -15,7 +16,7 @@ window values width height joining = record { values = values; width = width; he
 
 -- the window that a map is
 abbrev pub window_of : {V : Type 0} → Map V → Window V
-window_of map = window map.values.now map.width map.height map.joining
+window_of map = window map.values.now map.tile.width map.tile.height (number_of map.tile.joining)
 
 -- the window of the empty map
 abbrev pub empty_window : {V : Type 0} → Window V
@@ -23,4 +24,4 @@ empty_window = window [] 0 0 4
 
 -- how many pixels a map has
 abbrev pub pixels_of : {V : Type 0} → Map V → ℕ
-pixels_of map = map.width * map.height
+pixels_of map = map.tile.width * map.tile.height

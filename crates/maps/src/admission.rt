@@ -5,18 +5,21 @@ ghost use Rattle.maps.specs.Admission.{FirstNot, inadmissible, admission_answer}
 use crate::map::Map;
 use criteria::{Criterion, MapFault};
 
+// The first pixel whose value is not admitted, by search from the first pixel on.
+fn search<C: Criterion>(criterion: &C, map: &Map<C::Value>) -> Option<usize>
+    ensures { result ≡ inadmissible (C.judgement criterion.now) map.now }
+{
+    map.values
+        .iter()
+        .position(|value| !criterion.admitted(*value))
+}
+
 // The first pixel whose value is not admitted, or that there is none.
 pub fn first_inadmissible<C: Criterion>(criterion: &C, map: &Map<C::Value>) -> Option<usize>
     ensures value { result ≡ inadmissible (C.judgement criterion.now) map.now }
     ensures first { FirstNot (C.judgement criterion.now).admits map.now.values.now result }
 {
-    let values = map.values;
-    for (pixel, value) in values.iter().enumerate() {
-        if !criterion.admitted(*value) {
-            return Some(pixel);
-        }
-    }
-    None
+    search(criterion, map)
 }
 
 // Refuses a map with a value that is not admitted.

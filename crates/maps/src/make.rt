@@ -4,9 +4,10 @@ ghost use Rattle.maps.specs.Checks.{first_fault, answered, left_by};
 ghost use Rattle.maps.specs.Tiles.{map_checks};
 ghost use Rattle.maps.specs.Windows.{window, window_of, empty_window, pixels_of};
 
+use crate::joining::Joining;
 use crate::map::Map;
-use crate::tile::tile_pixels;
-use criteria::MapFault;
+use crate::tile::Tile;
+use criteria::{Counted, MapFault};
 
 impl<'a, V> Map<'a, V> {
     // The map that has no pixel.
@@ -15,9 +16,11 @@ impl<'a, V> Map<'a, V> {
     {
         Map {
             values: &[],
-            width: 0,
-            height: 0,
-            joining: 4,
+            tile: Tile {
+                width: 0,
+                height: 0,
+                joining: Joining::Four,
+            },
         }
     }
 
@@ -32,16 +35,11 @@ impl<'a, V> Map<'a, V> {
         ensures answer { result ≡ answered (first_fault (map_checks width height joining (length values.now))) tt }
         ensures window { window_of self.new ≡ left_by result (window values.now width height joining) (window_of self.old) }
     {
-        let pixels = tile_pixels(width, height, joining)?;
-        if values.len() != pixels {
-            return Err(MapFault::Misfit(1));
+        let tile = Tile::new(width, height, joining)?;
+        if values.len() != tile.pixels() {
+            return Err(MapFault::Misfit(Counted::Values));
         }
-        *self = Map {
-            values,
-            width,
-            height,
-            joining,
-        };
+        *self = Map { values, tile };
         Ok(())
     }
 

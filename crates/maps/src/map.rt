@@ -1,16 +1,15 @@
 // What a map is, and what it tells of itself.
-ghost use Rattle.std.specs.Prelude.{◌≡◌, ◌*◌, true, length};
-ghost use Rattle.maps.specs.Tiles.{is_map};
+ghost use Rattle.std.specs.Prelude.{◌≡◌, ◌*◌, length};
+
+use crate::joining::Joining;
+use crate::tile::Tile;
 
 // A window on criterion values, one for each pixel in pixel order, that nobody writes while the map is kept.
 #[derive(Drop)]
 pub struct Map<'a, V> {
     pub(crate) values: &'a [V],
-    pub(crate) width: usize,
-    pub(crate) height: usize,
-    pub(crate) joining: u8,
-    ghost full: { length values.now ≡ width * height },
-    ghost figures: { is_map width height joining ≡ true },
+    pub(crate) tile: Tile,
+    ghost full: { length values.now ≡ tile.width * tile.height },
 }
 
 impl<'a, V> Map<'a, V> {
@@ -21,21 +20,28 @@ impl<'a, V> Map<'a, V> {
         self.values
     }
 
-    pub fn width(&self) -> usize
-        ensures { result ≡ self.now.width }
+    // The tile that the values cover.
+    pub fn tile(&self) -> Tile
+        ensures { result ≡ self.now.tile }
     {
-        self.width
+        self.tile
+    }
+
+    pub fn width(&self) -> usize
+        ensures { result ≡ self.now.tile.width }
+    {
+        self.tile.width
     }
 
     pub fn height(&self) -> usize
-        ensures { result ≡ self.now.height }
+        ensures { result ≡ self.now.tile.height }
     {
-        self.height
+        self.tile.height
     }
 
-    pub fn joining(&self) -> u8
-        ensures { result ≡ self.now.joining }
+    pub fn joining(&self) -> Joining
+        ensures { result ≡ self.now.tile.joining }
     {
-        self.joining
+        self.tile.joining
     }
 }

@@ -4,6 +4,7 @@ use Rattle.criteria.specs.Criteria.{Judgement}
 use Rattle.morphology.specs.Pictures.{At}
 use Rattle.morphology.proofs.Tables.{weak_inside}
 use Rattle.maps.specs.declared.map.Map.{Map}
+use Rattle.maps.specs.Joinings.{number_of}
 use Rattle.maps.specs.Windows.{pixels_of}
 use Rattle.maps.specs.Grounds.{near_at, ground}
 use Rattle.maps.proofs.Nearness.{near_by, near_is}
@@ -53,7 +54,7 @@ module _ {V : Type 0} (j : Judgement V) (map : Map V) (z : ℕ) {centre : V} (re
         Flooding (ground j map) z marks queue (done + 1) f'
     turned early expansion =
         let p = get_or f.queue done 0 in
-        let around = neighbours map.width map.height map.joining p in
+        let around = neighbours map.tile.width map.tile.height (number_of map.tile.joining) p in
         let fits = underway.count_fits in
         let serves = s.spread.room.queue_serves in
         subst (Flooding (ground j map) z marks queue (done + 1))

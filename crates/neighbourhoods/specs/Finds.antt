@@ -2,6 +2,7 @@
 use Rattle.std.specs.Prelude.{ℕ, zero, suc, ◌+◌, ◌≤◌, Bool, cond, ◌&&◌, List, [], ◌∷◌, length, take, Some, None, Option, slice_index, slice_set}
 use Rattle.criteria.specs.Criteria.{Judgement}
 use Rattle.maps.specs.declared.map.Map.{Map}
+use Rattle.maps.specs.Joinings.{number_of}
 use Rattle.maps.specs.Grounds.{value_passes}
 use Rattle.neighbourhoods.specs.Marks.{served, free, marked, unmarked}
 use Rattle.neighbourhoods.specs.Steps.{neighbours}
@@ -40,7 +41,7 @@ near_centre j m centre p = value_passes m.values.now p (j.near centre)
 
 -- the visits of all neighbours of a pixel
 abbrev pub expanded : {V : Type 0} → Judgement V → Map V → V → ℕ → Finds → Finds
-expanded j m centre p f = visit_each (near_centre j m centre) (neighbours m.width m.height m.joining p) f
+expanded j m centre p f = visit_each (near_centre j m centre) (neighbours m.tile.width m.tile.height (number_of m.tile.joining) p) f
 
 -- the same for the pixel at this place in the queue
 abbrev pub expanded_at : {V : Type 0} → Judgement V → Map V → V → ℕ → Finds → Finds

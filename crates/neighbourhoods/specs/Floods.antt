@@ -2,6 +2,7 @@
 use Rattle.std.specs.Prelude.{◌≡◌, ℕ, ◌<◌, ◌≤◌, ◌&&◌, List, [], ◌∷◌, length, take, drop, Ok, Err, Option, Result, nat_le, nat_lt, slice_index}
 use Rattle.criteria.specs.declared.fault.MapFault.{MapFault}
 use Rattle.criteria.specs.declared.fault.MapFault.TheVariants.{Pixel, Scratch}
+use Rattle.criteria.specs.declared.fault.Part.TheVariants as part
 use Rattle.maps.specs.declared.map.Map.{Map}
 use Rattle.maps.specs.Checks.{Check, first_fault}
 use Rattle.maps.specs.Windows.{pixels_of}
@@ -17,8 +18,8 @@ pixel_check map z = record { holds = nat_lt z (pixels_of map); fault = Pixel z }
 -- marks and queue serve every pixel of the map
 abbrev pub scratch_checks : {V : Type 0} → Map V → List ℕ → List ℕ → List (Check MapFault)
 scratch_checks map marks queue =
-    record { holds = nat_le (pixels_of map) (served (length marks)); fault = Scratch 1 }
-    ∷ record { holds = nat_le (pixels_of map) (length queue); fault = Scratch 2 } ∷ []
+    record { holds = nat_le (pixels_of map) (served (length marks)); fault = Scratch part.Marks }
+    ∷ record { holds = nat_le (pixels_of map) (length queue); fault = Scratch part.Queue } ∷ []
 
 -- what is wrong with a flood from z, if anything is
 abbrev pub flood_fault : {V : Type 0} → Map V → ℕ → List ℕ → List ℕ → Option MapFault

@@ -3,6 +3,7 @@ use Rattle.std.specs.Prelude.{ℕ, Bool, cond, List, [], ◌∷◌, ◌++◌, le
 use Rattle.criteria.specs.Criteria.{Judgement}
 use Rattle.criteria.specs.declared.fault.MapFault.{MapFault}
 use Rattle.criteria.specs.declared.fault.MapFault.TheVariants.{Misfit}
+use Rattle.criteria.specs.declared.fault.Counted.TheVariants as counted
 use Rattle.maps.specs.declared.map.Map.{Map}
 use Rattle.maps.specs.Checks.{Check, first_fault, answered}
 use Rattle.maps.specs.Windows.{pixels_of}
@@ -13,7 +14,7 @@ use Rattle.neighbourhoods.specs.Floods.{pixel_check, scratch_checks}
 
 -- the sheet has a byte for each pixel of the map
 abbrev pub sheet_check : {V : Type 0} → Map V → List ℕ → Check MapFault
-sheet_check map sheet = record { holds = (length sheet == pixels_of map); fault = Misfit 2 }
+sheet_check map sheet = record { holds = (length sheet == pixels_of map); fault = Misfit counted.Sheet }
 
 -- the checks of a reach call from a pixel
 abbrev pub reach_checks : {V : Type 0} → Judgement V → Map V → ℕ → List ℕ → List ℕ → List ℕ → List (Check MapFault)

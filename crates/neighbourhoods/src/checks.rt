@@ -5,7 +5,7 @@ ghost use Rattle.neighbourhoods.specs.Floods.{pixel_check, scratch_checks, flood
 ghost use Rattle.neighbourhoods.specs.Sheets.{reach_answer};
 
 use crate::marks::capacity;
-use criteria::{Criterion, MapFault};
+use criteria::{Counted, Criterion, MapFault, Part};
 use maps::{Map, check_admitted};
 
 // Refuses a number that no pixel of the map has.
@@ -24,10 +24,10 @@ pub(crate) fn check_scratch<V>(map: &Map<V>, marks: &[u8], queue: &[u32]) -> Res
     ensures { result ≡ answered (first_fault (scratch_checks map.now marks.now queue.now)) tt }
 {
     if capacity(marks) < map.pixels() {
-        return Err(MapFault::Scratch(1));
+        return Err(MapFault::Scratch(Part::Marks));
     }
     if queue.len() < map.pixels() {
-        return Err(MapFault::Scratch(2));
+        return Err(MapFault::Scratch(Part::Queue));
     }
     Ok(())
 }
@@ -58,7 +58,7 @@ pub(crate) fn check_reach<C: Criterion>(
 {
     check_pixel(map, pixel)?;
     if sheet.len() != map.pixels() {
-        return Err(MapFault::Misfit(2));
+        return Err(MapFault::Misfit(Counted::Sheet));
     }
     check_scratch(map, marks, queue)?;
     check_admitted(criterion, map)

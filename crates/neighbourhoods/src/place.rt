@@ -15,8 +15,8 @@ pub(crate) struct Place {
 impl Place {
     // Where the pixel lies.
     pub(crate) fn of<V>(pixel: usize, map: &Map<V>) -> Place
-        requires { 0 < map.now.width }
-        ensures { result ≡ place_of map.now.width pixel }
+        requires { 0 < map.now.tile.width }
+        ensures { result ≡ place_of map.now.tile.width pixel }
     {
         let width = map.width();
         Place {
@@ -27,9 +27,9 @@ impl Place {
 
     // The pixel that the step leads to, unless it leads past the map's edge.
     pub(crate) fn after<V>(self, step: Step, map: &Map<V>) -> Option<usize>
-        requires place { (self.row < map.now.height) × (self.column < map.now.width) }
-        requires sides { (map.now.width ≤ 255) × (map.now.height ≤ 255) }
-        ensures { result ≡ led map.now.width map.now.height step self }
+        requires place { (self.row < map.now.tile.height) × (self.column < map.now.tile.width) }
+        requires sides { (map.now.tile.width ≤ 255) × (map.now.tile.height ≤ 255) }
+        ensures { result ≡ led map.now.tile.width map.now.tile.height step self }
     {
         let row = step.rows.lead(self.row, map.height())?;
         let column = step.columns.lead(self.column, map.width())?;

@@ -1,8 +1,9 @@
 // The steps from a pixel to the pixels that may be joined to it.
 ghost use Rattle.std.specs.Prelude.{◌≡◌, ◌<◌, IfSome};
+ghost use Rattle.maps.specs.Joinings.{number_of};
 ghost use Rattle.neighbourhoods.specs.Steps.{shifted, steps_of};
 
-use maps::Map;
+use maps::{Joining, Map};
 
 // By one back, not at all or by one on, in a row or in a column.
 #[derive(Clone, Copy)]
@@ -57,12 +58,11 @@ static STEPS: [Step; 8] = [
 
 // The steps of a map's joining: four with joining 4, eight with joining 8.
 pub(crate) fn steps<V>(map: &Map<V>) -> &'static [Step]
-    ensures { result.now ≡ steps_of map.now.joining }
+    ensures { result.now ≡ steps_of (number_of map.now.tile.joining) }
 {
-    if map.joining() == 8 {
-        &STEPS
-    } else {
-        &STEPS[0..4]
+    match map.joining() {
+        Joining::Four => &STEPS[..4],
+        Joining::Eight => &STEPS,
     }
 }
 

@@ -17,8 +17,8 @@ after-requires g c =
     let m = c.args.map.now in
     let p = c.args.pixel in
     let t = tile_of_map m p c.requires.pixel in
-    let row_in = row_inside m.width m.height p c.requires.pixel in
-    let column-in = column_inside m.width m.height p c.requires.pixel in
+    let row_in = row_inside m.tile.width m.tile.height p c.requires.pixel in
+    let column-in = column_inside m.tile.width m.tile.height p c.requires.pixel in
     let at = c.of-place.ensures in
     record { place = (omega (arith, ap (λ x. x.row) at), omega (arith, ap (λ x. x.column) at)); sides = (t.width_fits, t.height_fits) }
 
@@ -46,7 +46,7 @@ loop-step-preserved g c =
           let m = c.args.map.now in
           let j = g.C.Criterion.judgement c.args.criterion.now in
           let q = w.in-Some.next in
-          let inside : q < m.width * m.height = step_inside _ _ _ _ _ _ c.steps-step-items.ensures c.of-place.ensures c.loop-step.invariant _ c.loop-step-test.true c.requires.pixel w.in-Some.ensures in
+          let inside : q < m.tile.width * m.tile.height = step_inside _ _ _ _ _ _ c.steps-step-items.ensures c.of-place.ensures c.loop-step.invariant _ c.loop-step-test.true c.requires.pixel w.in-Some.ensures in
           let in-values : q < length w.values.result.now = omega (arith, m.full, ap length w.values.ensures) in
           let value = subst (λ xs. At xs q w.index-values-next.result) w.values.ensures (at_read w.values.result.now q _ in-values w.index-values-next.is) in
           rw (w.marks-is, w.queue-is, w.count-is)

@@ -9,4 +9,4 @@ invariant-loop-done g l =
     l.done (record { marks = l.marks; queue = l.queue; count = l.found })
 
 abbrev pub decreases-loop-done : goal.decreases-loop-done
-decreases-loop-done g l = l.map.width * l.map.height - l.done
+decreases-loop-done g l = l.map.tile.width * l.map.tile.height - l.done
