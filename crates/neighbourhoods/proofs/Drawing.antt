@@ -10,10 +10,6 @@ use Rattle.neighbourhoods.specs.Listings.{In, Lists}
 use Rattle.neighbourhoods.specs.Sheets.{sheet_of, drawn}
 use Rattle.neighbourhoods.proofs.Listing.{in_or_not}
 
-pub drawn_push : (ps sheet : List ℕ) (q : ℕ) → drawn sheet (ps ++ q ∷ []) ≡ set (drawn sheet ps) q 1
-drawn_push [] sheet q = refl
-drawn_push (p ∷ ps) sheet q = drawn_push ps (set sheet p 1) q
-
 drawn_length : (ps sheet : List ℕ) → length (drawn sheet ps) ≡ length sheet
 drawn_length [] sheet = refl
 drawn_length (p ∷ ps) sheet = drawn_length ps (set sheet p 1) ∙ length-set sheet p 1

@@ -1,9 +1,11 @@
 -- Elements of a list, and of its parts. Assumes nothing.
-use Rattle.std.proofs.Common.{◌≡◌, ℕ, zero, suc, ◌<◌, ◌≤◌, ◌⊎◌, List, [], ◌∷◌, ◌++◌, map, length, get_or, take, sym, refl, ap, subst, inl, inr, arith}
-use Rattle.std.proofs.lemmas.List.{length-take-le}
-use Rattle.std.proofs.lemmas.Bool.{cases_eq}
+use Rattle.std.proofs.Common.{◌≡◌, ◌==◌, ℕ, zero, suc, ◌<◌, ◌≤◌, true, ◌⊎◌, List, [], ◌∷◌, ◌++◌, map, length, get_or, take, sym, refl, ap, subst, inl, inr, arith}
+use Rattle.std.specs.List.{list_any}
+use Rattle.std.proofs.lemmas.List.Folds.{list_any_at}
+use Rattle.std.proofs.lemmas.Bool.{false≢true, cases_eq, or_cases, eq-eqb, eqb-true}
 use Rattle.morphology.specs.Pictures.{At, here, later}
-use Rattle.morphology.proofs.Pictures.{at_one, at_bound}
+use Rattle.morphology.proofs.Pictures.{at_bound}
+use Rattle.morphology.proofs.Values.{at_is}
 use Rattle.neighbourhoods.specs.Listings.{In}
 
 module _ {A : Type 0} where
@@ -51,14 +53,16 @@ module _ {A B : Type 0} (F : A → B) where
   at_mapped (x ∷ xs) here = (x, here, refl)
   at_mapped (x ∷ xs) (later a) = let r = at_mapped xs a in (r.0, later r.1, r.2)
 
--- the pixels at the head of a queue
-pub in_head : (queue : List ℕ) (count i : ℕ) {p : ℕ} → i < count → count ≤ length queue → get_or queue i 0 ≡ p → In (take count queue) p
-in_head queue count i early within e = (i, subst (At (take count queue) i) e (at_head queue count i 0 early within))
+-- the test whether a pixel is listed
+pub listed_in : (pixels : List ℕ) (p : ℕ) → list_any (λ listed. listed == p) pixels ≡ true → In pixels p
+listed_in [] p h = absurd (false≢true h)
+listed_in (x ∷ xs) p h = elim (or_cases (x == p) _ h) [
+  | inl e ↦ (0, subst (At (x ∷ xs) 0) (eqb-true x p e) here)
+  | inr rest ↦ let i = listed_in xs p rest in (suc i.0, later i.1)
+]
 
-pub not_in_head : (queue : List ℕ) (count : ℕ) {p : ℕ} → count ≤ length queue → ((i : ℕ) → i < count → get_or queue i 0 ≡ p → ⊥) → In (take count queue) p → ⊥
-not_in_head queue count within none (i, a) =
-    let early : i < count = subst (λ n. i < n) (length-take-le count queue within) (at_bound a) in
-    none i early (at_one (at_head queue count i 0 early within) a)
+pub in_listed : (pixels : List ℕ) (p : ℕ) → In pixels p → list_any (λ listed. listed == p) pixels ≡ true
+in_listed pixels p (i, a) = list_any_at (λ listed. listed == p) pixels i p (at_bound a) (eq-eqb _ p (at_is p a))
 
 -- whether a pixel stands in a list
 pub in_or_not : (list : List ℕ) (p : ℕ) → In list p ⊎ (In list p → ⊥)

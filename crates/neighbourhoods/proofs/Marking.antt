@@ -1,6 +1,6 @@
 -- Marks put one after another, and taken off again. Assumes nothing.
-use Rattle.std.proofs.Common.{◌≡◌, ℕ, suc, ◌+◌, ◌-◌, ◌<◌, ◌≤◌, true, false, eqb, ◌≢◌, ◌⊎◌, List, [], ◌∷◌, ◌++◌, length, get_or, take, set, sym, refl, ap, ◌∙◌, subst, inl, inr, arith}
-use Rattle.std.proofs.lemmas.List.{get_or-set_same, get_or-set_other, get_or_past, get_or-replicate, length-replicate, length-set, set-set, set-get_or, set_past, take_more}
+use Rattle.std.proofs.Common.{◌≡◌, ℕ, suc, ◌<◌, ◌≤◌, true, false, eqb, ◌≢◌, ◌⊎◌, List, [], ◌∷◌, ◌++◌, length, get_or, take, set, sym, refl, ap, ap₂, ◌∙◌, subst, inl, inr, arith}
+use Rattle.std.proofs.lemmas.List.{get_or-set_same, get_or-set_other, get_or_past, get_or-replicate, length-replicate, length-set, set-set, set-get_or, set_comm, set_past}
 use Rattle.std.proofs.lemmas.Bool.{both_ways, cases_eq, cases_lt, eq-eqb, eqb-true}
 use Rattle.morphology.specs.Pictures.{At, here, later}
 use Rattle.neighbourhoods.specs.Zeros.{zeros}
@@ -115,19 +115,20 @@ pub fresh_once : {m ps : List ℕ} {i k q : ℕ} → Fresh m ps → At ps i q �
 fresh_once f a b = same_place f refl a b
 
 -- the marks come off again
-pub unmark_push : (ps m : List ℕ) (q : ℕ) → unmark_all m (ps ++ q ∷ []) ≡ unmark_all (unmarked m q) ps
-unmark_push [] m q = refl
-unmark_push (p ∷ ps) m q = ap (λ x. unmarked x p) (unmark_push ps m q)
+unmarked_twice : (m : List ℕ) (p q : ℕ) → unmarked (unmarked m p) q ≡ unmarked (unmarked m q) p
+unfolding unmarked
+unmarked_twice m p q = elim (cases_eq p q) [
+  | inl e ↦ ap₂ (λ x y. set (set m x 0) y 0) e (sym e)
+  | inr ne ↦ set_comm m p q 0 0 ne
+]
 
--- the pixel before the i-th comes off first
-pub unmark_more : (m queue : List ℕ) (i : ℕ) → 0 < i → i ≤ length queue →
-    unmark_all (unmarked m (get_or queue (i - 1) 0)) (take (i - 1) queue) ≡ unmark_all m (take i queue)
-unmark_more m queue i some within =
-    let next : i - 1 + 1 ≡ i = omega arith in
-    sym (unmark_push (take (i - 1) queue) m (get_or queue (i - 1) 0))
-    ∙ ap (unmark_all m) (sym (take_more queue (i - 1) 0 (omega arith)) ∙ ap (λ n. take n queue) next)
+-- in any order
+unmarked_first : (ps m : List ℕ) (q : ℕ) → unmark_all (unmarked m q) ps ≡ unmarked (unmark_all m ps) q
+unmarked_first [] m q = refl
+unmarked_first (p ∷ ps) m q = ap (λ x. unmark_all x ps) (unmarked_twice m q p) ∙ unmarked_first ps (unmarked m p) q
 
 pub all_back : {m ps : List ℕ} → Fresh m ps → unmark_all (mark_all m ps) ps ≡ m
 unfolding mark_all
 all_back none = refl
-all_back {m = m} (one {p = p} i f rest) = ap (λ x. unmarked x p) (all_back rest) ∙ marked_and_back m p f
+all_back {m = m} (one {ps = ps} {p = p} i f rest) =
+    unmarked_first ps (mark_all (marked m p) ps) p ∙ ap (λ x. unmarked x p) (all_back rest) ∙ marked_and_back m p f

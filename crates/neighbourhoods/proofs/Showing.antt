@@ -1,15 +1,15 @@
 -- Neighbourhoods drawn on a sheet from what floods list. Assumes nothing.
-use Rattle.std.proofs.Common.{◌≡◌, ℕ, ◌+◌, ◌<◌, ◌≤◌, List, get_or, take, sym, subst, inl, inr, arith}
+use Rattle.std.proofs.Common.{◌≡◌, ℕ, ◌+◌, ◌<◌, ◌≤◌, List, length, get_or, take, sym, subst, inl, inr, arith}
 use Rattle.std.proofs.lemmas.Bool.{cases_eq}
 use Rattle.morphology.specs.Neighbourhoods.{Ground, pixels, Weak, Symmetric}
 use Rattle.morphology.specs.Tables.{weak, symmetric}
+use Rattle.morphology.proofs.Values.{at_getD}
 use Rattle.morphology.proofs.Tables.{weak_inside, centre_inside, neighbourhoods}
 use Rattle.neighbourhoods.specs.Zeros.{zeros}
 use Rattle.neighbourhoods.specs.Marks.{Clear}
 use Rattle.neighbourhoods.specs.Listings.{In}
 use Rattle.neighbourhoods.specs.Floods.{Flooded}
 use Rattle.neighbourhoods.specs.Sheets.{drawn, weak_sheet, symmetric_sheet}
-use Rattle.neighbourhoods.proofs.Listing.{at_head}
 use Rattle.neighbourhoods.proofs.Marking.{zeros_clear}
 use Rattle.neighbourhoods.proofs.Drawing.{Shows, shows_none, shows_more, shows_same, shows_test}
 
@@ -25,8 +25,9 @@ pub record Held (g : Ground) (x k y : ℕ) : Type 0 where
 
 -- the pixels that a flood lists lie in the tile
 pub listed_inside : {g : Ground} {z : ℕ} {marks queue queue' : List ℕ} {count : ℕ} → Flooded g z marks queue queue' count →
-    (i : ℕ) → i < count → get_or queue' i 0 < pixels g
-listed_inside {queue' = queue'} {count = count} f i early = weak_inside (f.listed_among_free.sound (at_head queue' count i 0 early f.within))
+    (i : ℕ) → i < length (take count queue') → get_or (take count queue') i 0 < pixels g
+listed_inside {queue' = queue'} {count = count} f i early =
+    weak_inside (f.listed_among_free.sound (at_getD (take count queue') i 0 early))
 
 module _ {g : Ground} {z : ℕ} {marks queue queue' : List ℕ} {count : ℕ} (f : Flooded g z marks queue queue' count) (clear : Clear (pixels g) marks) where
   -- one flood on a clean sheet

@@ -1,5 +1,6 @@
 -- What a flood does with marks and queue, visit by visit. Assumes nothing.
 use Rattle.std.specs.Prelude.{ℕ, zero, suc, ◌+◌, ◌≤◌, Bool, cond, ◌&&◌, List, [], ◌∷◌, length, take, Some, None, Option, slice_index, slice_set}
+use Rattle.std.specs.List.{fold}
 use Rattle.criteria.specs.Criteria.{Judgement}
 use Rattle.maps.specs.declared.map.Map.{Map}
 use Rattle.maps.specs.Joinings.{number_of}
@@ -58,7 +59,6 @@ pub record Room (n : ℕ) (f : Finds) : Type 0 where
   pub queue_serves : n ≤ length f.queue
   pub free_left : f.count + count_below n (free f.marks) ≤ n
 
--- the pixels are freed, the last first
+-- the pixels are freed
 abbrev pub unmark_all : List ℕ → List ℕ → List ℕ
-unmark_all marks [] = marks
-unmark_all marks (p ∷ ps) = unmarked (unmark_all marks ps) p
+unmark_all marks pixels = fold unmarked marks pixels

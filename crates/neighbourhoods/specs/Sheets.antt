@@ -1,5 +1,6 @@
 -- What a reach call answers, and the sheet that it writes. Assumes nothing.
 use Rattle.std.specs.Prelude.{ℕ, Bool, cond, List, [], ◌∷◌, ◌++◌, length, Result, ◌==◌, slice_set}
+use Rattle.std.specs.List.{fold}
 use Rattle.criteria.specs.Criteria.{Judgement}
 use Rattle.criteria.specs.declared.fault.MapFault.{MapFault}
 use Rattle.criteria.specs.declared.fault.MapFault.TheVariants.{Misfit}
@@ -40,5 +41,4 @@ symmetric_sheet g x = sheet_of (pixels g) (symmetric g x)
 
 -- the sheet with 1 at the pixels of a list, the others as they were
 abbrev pub drawn : List ℕ → List ℕ → List ℕ
-drawn sheet [] = sheet
-drawn sheet (p ∷ ps) = drawn (slice_set sheet p 1) ps
+drawn sheet pixels = fold (λ s p. slice_set s p 1) sheet pixels

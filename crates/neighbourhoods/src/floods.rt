@@ -1,5 +1,5 @@
 // The flood: it finds the weak neighbourhood of a pixel.
-ghost use Rattle.std.specs.Prelude.{◌≡◌, ℕ, ◌^◌, ◌<◌, ◌≤◌, true, length, take, slice_index};
+ghost use Rattle.std.specs.Prelude.{◌≡◌, ℕ, ◌^◌, ◌<◌, ◌≤◌, true, length, slice_index};
 ghost use Rattle.std.specs.Result.{result_err};
 ghost use Rattle.maps.specs.Windows.{pixels_of};
 ghost use Rattle.maps.specs.Grounds.{ground};
@@ -80,14 +80,13 @@ fn expand_queued<C: Criterion>(
     expand(criterion, map, centre, pixel, marks, queue, found)
 }
 
-// Frees the first pixels of the queue, the last found first.
-fn unmark(marks: &mut [u8], queue: &[u32], count: usize)
-    requires listed { count ≤ length queue.now }
-    requires served { (i : ℕ) → i < count → slice_index queue.now i < served (length marks.old) }
-    ensures { marks.new ≡ unmark_all marks.old (take count queue.now) }
+// Frees the listed pixels.
+fn unmark(marks: &mut [u8], pixels: &[u32])
+    requires { (i : ℕ) → i < length pixels.now → slice_index pixels.now i < served (length marks.old) }
+    ensures { marks.new ≡ unmark_all marks.old pixels.now }
 {
-    for i in (0..count).rev() {
-        clear(marks, queue[i] as usize);
+    for pixel in pixels {
+        clear(marks, *pixel as usize);
     }
 }
 
@@ -127,7 +126,7 @@ pub(crate) fn flood_within<C: Criterion>(
     ensures flooded { Flooded (ground (C.judgement criterion.now) map.now) z marks.old queue.old queue.new result }
 {
     let found = spread(criterion, map, z, marks, queue);
-    unmark(marks, queue, found);
+    unmark(marks, &queue[..found]);
     found
 }
 

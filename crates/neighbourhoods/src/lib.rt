@@ -3,9 +3,9 @@
 
 mod checks;
 mod floods;
+mod lent;
 mod marks;
 mod place;
-mod queue;
 mod reach;
 mod sheets;
 mod slices;
@@ -13,8 +13,8 @@ mod steps;
 mod theorems;
 
 pub use floods::flood;
-pub use marks::{Marks, capacity, clear_all};
-pub use queue::Queue;
+pub use lent::Lent;
+pub use marks::{capacity, clear_all};
 pub use reach::{reach_symmetric, reach_weak};
 pub use slices::fill;
 pub use theorems::{examples_hold, steps_hold};

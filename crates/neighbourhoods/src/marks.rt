@@ -1,27 +1,15 @@
 // The lent marks. How a mark lies in bytes is known here alone.
+#![tactic(auto, unfolding(crate::specs::Marks::served, crate::specs::Marks::free, crate::specs::Marks::marked, crate::specs::Marks::unmarked))]
+
 ghost use Rattle.std.specs.Prelude.{◌≡◌, ◌<◌, length};
 ghost use Rattle.neighbourhoods.specs.Zeros.{zeros};
 ghost use Rattle.neighbourhoods.specs.Marks.{served, free, marked, unmarked};
-
-use crate::slices::fill;
-
-// Lent marks, zero throughout once they are let go.
-pub struct Marks<'a>(pub &'a mut [u8]);
-
-impl Drop for Marks<'_> {
-    fn drop(self)
-        ensures { self.exit.0.now ≡ zeros (length self.exit.0.now) }
-    {
-        clear_all(self.0);
-        let Marks(_) = self;
-    }
-}
 
 // Frees every pixel.
 pub fn clear_all(marks: &mut [u8])
     ensures { marks.new ≡ zeros (length marks.old) }
 {
-    fill(marks, 0);
+    marks.fill(0);
 }
 
 // How many pixels the marks serve.

@@ -9,10 +9,9 @@ ghost use Rattle.neighbourhoods.specs.Sheets.{reach_answer, weak_sheet, symmetri
 
 use crate::checks::check_reach;
 use crate::floods::flood_within;
-use crate::marks::{Marks, clear_all};
-use crate::queue::Queue;
+use crate::lent::Lent;
+use crate::marks::clear_all;
 use crate::sheets::{draw, lists};
-use crate::slices::fill;
 use criteria::{Criterion, MapFault};
 use maps::Map;
 
@@ -31,8 +30,9 @@ fn show_weak<C: Criterion>(
 {
     clear_all(marks);
     let count = flood_within(criterion, map, pixel, marks, queue);
-    fill(sheet, 0);
-    draw(sheet, queue, count);
+    let pixels = &queue[..count];
+    sheet.fill(0);
+    draw(sheet, pixels);
 }
 
 // Shows the symmetric neighbourhood of the pixel on the sheet: floods from every pixel, and draws the floods that hold it.
@@ -49,11 +49,12 @@ fn show_symmetric<C: Criterion>(
     ensures { sheet.new ≡ symmetric_sheet (ground (C.judgement criterion.now) map.now) pixel }
 {
     clear_all(marks);
-    fill(sheet, 0);
+    sheet.fill(0);
     for z in 0..map.pixels() {
         let count = flood_within(criterion, map, z, marks, queue);
-        if lists(queue, count, pixel) {
-            draw(sheet, queue, count);
+        let pixels = &queue[..count];
+        if lists(pixels, pixel) {
+            draw(sheet, pixels);
         }
     }
 }
@@ -72,10 +73,16 @@ pub fn reach_weak<C: Criterion>(
     ensures marks_cleared { marks.new ≡ zeros (length marks.old) }
     ensures queue_cleared { queue.new ≡ zeros (length queue.old) }
 {
-    let marks = Marks(marks);
-    let queue = Queue(queue);
-    check_reach(criterion, map, pixel, sheet, marks.0, queue.0)?;
-    show_weak(criterion, map, pixel, sheet, marks.0, queue.0);
+    let marks = Lent {
+        slice: marks,
+        after: 0,
+    };
+    let queue = Lent {
+        slice: queue,
+        after: 0,
+    };
+    check_reach(criterion, map, pixel, sheet, marks.slice, queue.slice)?;
+    show_weak(criterion, map, pixel, sheet, marks.slice, queue.slice);
     Ok(())
 }
 
@@ -93,9 +100,15 @@ pub fn reach_symmetric<C: Criterion>(
     ensures marks_cleared { marks.new ≡ zeros (length marks.old) }
     ensures queue_cleared { queue.new ≡ zeros (length queue.old) }
 {
-    let marks = Marks(marks);
-    let queue = Queue(queue);
-    check_reach(criterion, map, pixel, sheet, marks.0, queue.0)?;
-    show_symmetric(criterion, map, pixel, sheet, marks.0, queue.0);
+    let marks = Lent {
+        slice: marks,
+        after: 0,
+    };
+    let queue = Lent {
+        slice: queue,
+        after: 0,
+    };
+    check_reach(criterion, map, pixel, sheet, marks.slice, queue.slice)?;
+    show_symmetric(criterion, map, pixel, sheet, marks.slice, queue.slice);
     Ok(())
 }

@@ -4,6 +4,7 @@ use Rattle.maps.specs.Grounds.{ground}
 use Rattle.std.proofs.lemmas.Bool.{false≢true}
 use Rattle.neighbourhoods.specs.Marks.{served}
 use Rattle.neighbourhoods.specs.Zeros.{zeros}
+use Rattle.neighbourhoods.proofs.Listing.{listed_in, in_listed}
 use Rattle.neighbourhoods.proofs.Drawing.{Shows}
 use Rattle.neighbourhoods.proofs.Showing.{Held, cleared, listed_inside, none_held, flood_drawn, flood_passed, all_held}
 use Rattle.neighbourhoods.proofs.reach.show_symmetric.Goals as goal
@@ -12,7 +13,7 @@ use Rattle.neighbourhoods.proofs.reach.show_symmetric.Goals.{then-lists, else-li
 pub loop-z-init : goal.loop-z-init
 loop-z-init g c =
     let here = ground (g.C.Criterion.judgement c.args.criterion.now) c.args.map.now in
-    let clean : c.fill.new.slice ≡ zeros (pixels_of c.args.map.now) = c.fill.ensures ∙ ap zeros c.requires.pixel.1 in
+    let clean : c.fill.new.self ≡ zeros (pixels_of c.args.map.now) = (c.fill.ensures.after (λ y e. e)) ∙ ap zeros c.requires.pixel.1 in
     (refl, subst (Shows (pixels_of c.args.map.now) (Held here c.args.pixel 0)) (sym clean) (none_held here c.args.pixel))
 
 pub flood_within-count-requires : goal.flood_within-count-requires
@@ -23,13 +24,8 @@ flood_within-count-requires g c =
       room = (subst (λ n. pixels_of c.args.map.now ≤ served n) same c.requires.room.0, omega (arith, c.requires.room.1, c.loop-z.auto.queue));
     }
 
-pub lists-requires : goal.lists-requires
-lists-requires g c = c.flood_within-count.ensures.flooded.within
-
 pub draw-requires : goal.draw-requires
-draw-requires g c =
-    let flooded = c.flood_within-count.ensures.flooded in
-    record { listed = flooded.within; inside = λ i early. omega (arith, listed_inside flooded i early, c.loop-z.invariant.1.size) }
+draw-requires g c = λ i early. omega (arith, listed_inside c.flood_within-count.ensures.flooded i early, c.loop-z.invariant.1.size)
 
 pub loop-z-preserved : goal.loop-z-preserved
 loop-z-preserved g c =
@@ -38,8 +34,8 @@ loop-z-preserved g c =
     let here = ground (g.C.Criterion.judgement c.args.criterion.now) c.args.map.now in (
       c.flood_within-count.ensures.marks_kept ∙ c.loop-z.invariant.0,
       elim c.if-lists.branch [
-        | then-lists w ↦ rw (w.sheet-is, w.draw.ensures) (flood_drawn flooded clear c.loop-z.invariant.1 (w.if-lists.ensures.0 refl))
-        | else-lists w ↦ rw w.sheet-is (flood_passed flooded clear c.loop-z.invariant.1 (λ i. false≢true (w.if-lists.ensures.1 i)))
+        | then-lists w ↦ rw (w.sheet-is, w.draw.ensures) (flood_drawn flooded clear c.loop-z.invariant.1 (listed_in _ _ (sym w.if-lists.ensures)))
+        | else-lists w ↦ rw w.sheet-is (flood_passed flooded clear c.loop-z.invariant.1 (λ i. false≢true (w.if-lists.ensures ∙ in_listed _ _ i)))
       ],
     )
 
