@@ -1,5 +1,8 @@
 // Where a pixel lies on a map, and where a step from it leads.
-ghost use Rattle.std.specs.Prelude.{◌≡◌, ◌<◌, ◌≤◌};
+#![tactic(auto, unfolding(morphology::specs::Tile::row, morphology::specs::Tile::column))]
+
+ghost use Rattle.std.specs.Prelude.{◌≡◌, ◌<◌, ◌≤◌, IfSome};
+ghost use Rattle.maps.specs.Windows.{pixels_of};
 ghost use Rattle.neighbourhoods.specs.Steps.{place_of, led};
 
 use crate::steps::Step;
@@ -15,8 +18,10 @@ pub(crate) struct Place {
 impl Place {
     // Where the pixel lies.
     pub(crate) fn of<V>(pixel: usize, map: &Map<V>) -> Place
-        requires { 0 < map.now.tile.width }
-        ensures { result ≡ place_of map.now.tile.width pixel }
+        requires { pixel < pixels_of map.now }
+        ensures place { result ≡ place_of map.now.tile.width pixel }
+        ensures row { result.row < map.now.tile.height }
+        ensures column { result.column < map.now.tile.width }
     {
         let width = map.width();
         Place {
@@ -27,9 +32,10 @@ impl Place {
 
     // The pixel that the step leads to, unless it leads past the map's edge.
     pub(crate) fn after<V>(self, step: Step, map: &Map<V>) -> Option<usize>
-        requires place { (self.row < map.now.tile.height) × (self.column < map.now.tile.width) }
-        requires sides { (map.now.tile.width ≤ 255) × (map.now.tile.height ≤ 255) }
-        ensures { result ≡ led map.now.tile.width map.now.tile.height step self }
+        requires row { self.row < map.now.tile.height }
+        requires column { self.column < map.now.tile.width }
+        ensures pixel { result ≡ led map.now.tile.width map.now.tile.height step self }
+        ensures inside { IfSome result (λ next. next < pixels_of map.now) }
     {
         let row = step.rows.lead(self.row, map.height())?;
         let column = step.columns.lead(self.column, map.width())?;

@@ -12,32 +12,8 @@ use Rattle.neighbourhoods.proofs.floods.expand.Goals.{in-Some, in_default}
 pub loop-step-init : goal.loop-step-init
 loop-step-init g c = before_steps _ _ _ _ _ _ c.requires.room
 
-pub after-requires : goal.after-requires
-after-requires g c =
-    let m = c.args.map.now in
-    let p = c.args.pixel in
-    let t = tile_of_map m p c.requires.pixel in
-    let row_in = row_inside m.tile.width m.tile.height p c.requires.pixel in
-    let column-in = column_inside m.tile.width m.tile.height p c.requires.pixel in
-    let at = c.of-place.ensures in
-    record { place = (omega (arith, ap (λ x. x.row) at), omega (arith, ap (λ x. x.column) at)); sides = (t.width_fits, t.height_fits) }
-
-pub offset_bounds-values-next : goal.offset_bounds-values-next
-offset_bounds-values-next g c =
-    let inside = step_inside _ _ _ _ _ _ c.steps-step-items.ensures c.of-place.ensures c.loop-step.invariant _ c.loop-step-test.true c.requires.pixel c.in-Some.ensures in
-    omega (arith, c.args.map.now.full, ap length c.values.ensures)
-
-pub bounds-values-next : goal.bounds-values-next
-bounds-values-next g c =
-    let inside = step_inside _ _ _ _ _ _ c.steps-step-items.ensures c.of-place.ensures c.loop-step.invariant _ c.loop-step-test.true c.requires.pixel c.in-Some.ensures in
-    omega (arith, c.args.map.now.full, ap length c.values.ensures)
-
-pub visit-count-requires : goal.visit-count-requires
-visit-count-requires g c =
-    let inside = step_inside _ _ _ _ _ _ c.steps-step-items.ensures c.of-place.ensures c.loop-step.invariant _ c.loop-step-test.true c.requires.pixel c.in-Some.ensures in
-    let t = tile_of_map c.args.map.now c.args.pixel c.requires.pixel in
-    let room = c.loop-step.invariant.room in
-    record { pixel = (omega (arith, room.marks_serve), omega (arith, t.pixels_fit)); room = room_left room c.in-Some.next inside }
+pub visit-count-requires-clause-room : goal.visit-count-requires-clause-room
+visit-count-requires-clause-room g c = room_left c.loop-step.invariant.room c.in-Some.next c.in-Some.ensures.inside
 
 pub loop-step-preserved : goal.loop-step-preserved
 loop-step-preserved g c =
@@ -46,16 +22,16 @@ loop-step-preserved g c =
           let m = c.args.map.now in
           let j = g.C.Criterion.judgement c.args.criterion.now in
           let q = w.in-Some.next in
-          let inside : q < m.tile.width * m.tile.height = step_inside _ _ _ _ _ _ c.steps-step-items.ensures c.of-place.ensures c.loop-step.invariant _ c.loop-step-test.true c.requires.pixel w.in-Some.ensures in
+          let inside = w.in-Some.ensures.inside in
           let in-values : q < length w.values.result.now = omega (arith, m.full, ap length w.values.ensures) in
           let value = subst (λ xs. At xs q w.index-values-next.result) w.values.ensures (at_read w.values.result.now q _ in-values w.index-values-next.is) in
           rw (w.marks-is, w.queue-is, w.count-is)
-          (to_pixel _ _ _ _ _ _ c.steps-step-items.ensures c.of-place.ensures c.loop-step.invariant _ c.loop-step-test.true w.in-Some.ensures inside
+          (to_pixel _ _ _ _ _ _ c.steps-step-items.ensures c.of-place.ensures.place c.loop-step.invariant _ c.loop-step-test.true w.in-Some.ensures.pixel w.in-Some.ensures.inside
           (passes_at (j.near c.args.centre) value) w.visit-count.ensures)
       | in_default w ↦
           rw (w.marks-is, w.queue-is, w.count-is)
-          (no_pixel _ _ _ _ _ _ c.steps-step-items.ensures c.of-place.ensures c.loop-step.invariant _ c.loop-step-test.true w.in_default.ensures)
+          (no_pixel _ _ _ _ _ _ c.steps-step-items.ensures c.of-place.ensures.place c.loop-step.invariant _ c.loop-step-test.true w.in_default.ensures.pixel)
     ]
 
 pub returns : goal.returns
-returns g c = after_steps _ _ _ _ _ _ c.steps-step-items.ensures c.of-place.ensures c.loop-step.invariant c.loop-step-test.false
+returns g c = after_steps _ _ _ _ _ _ c.steps-step-items.ensures c.of-place.ensures.place c.loop-step.invariant c.loop-step-test.false

@@ -14,19 +14,6 @@ loop-done-init g c =
     let s = started _ m z read c.args.marks.now c.args.queue.now c.requires.pixel c.requires.room.0 c.requires.room.1 c.visit-found.ensures in
     loop_starts _ m z read s
 
-pub expand_queued-found-requires : goal.expand_queued-found-requires
-expand_queued-found-requires g c =
-    let safe = c.loop-done.invariant.safe in
-    record { queued = (safe.queued c.loop-done-test.true, safe.pixel_inside c.loop-done-test.true); room = safe.room }
-
-pub overflow_add-done : goal.overflow_add-done
-overflow_add-done g c =
-    let t = tile_of_map c.args.map.now c.args.z c.requires.pixel in
-    omega (arith, c.loop-done.invariant.safe.count_fits, t.pixels_fit, c.loop-done-test.true)
-
-pub loop-done-smaller : goal.loop-done-smaller
-loop-done-smaller g c = omega (arith, c.loop-done.invariant.safe.count_fits, c.loop-done-test.true)
-
 pub loop-done-preserved : goal.loop-done-preserved
 loop-done-preserved g c =
     let m = c.args.map.now in

@@ -10,20 +10,6 @@ use Rattle.neighbourhoods.proofs.Showing.{Held, cleared, listed_inside, none_hel
 use Rattle.neighbourhoods.proofs.reach.show_symmetric.Goals as goal
 use Rattle.neighbourhoods.proofs.reach.show_symmetric.Goals.{then-lists, else-lists}
 
-pub loop-z-init : goal.loop-z-init
-loop-z-init g c =
-    let here = ground (g.C.Criterion.judgement c.args.criterion.now) c.args.map.now in
-    let clean : c.fill.new.self ≡ zeros (pixels_of c.args.map.now) = (c.fill.ensures.after (λ y e. e)) ∙ ap zeros c.requires.pixel.1 in
-    (refl, subst (Shows (pixels_of c.args.map.now) (Held here c.args.pixel 0)) (sym clean) (none_held here c.args.pixel))
-
-pub flood_within-count-requires : goal.flood_within-count-requires
-flood_within-count-requires g c =
-    let same : length c.args.marks.now ≡ length c.loop-z.marks = omega arith in
-    record {
-      pixel = omega (arith, c.loop-z-test.true, c.pixels-z-end.ensures);
-      room = (subst (λ n. pixels_of c.args.map.now ≤ served n) same c.requires.room.0, omega (arith, c.requires.room.1, c.loop-z.auto.queue));
-    }
-
 pub draw-requires : goal.draw-requires
 draw-requires g c = λ i early. omega (arith, listed_inside c.flood_within-count.ensures.flooded i early, c.loop-z.invariant.1.size)
 
