@@ -56,10 +56,12 @@ mod tests {
     #[test]
     fn tolerances_are_matched(rt: HostRuntime) {
         assert!(rt;
-            Step::try_from(Tolerance::Turn(5)).is_err() && Turn::try_from(Tolerance::Step(5)).is_err()
+            Step::try_from(Tolerance::Turn(5)).is_err()
+                && Turn::try_from(Tolerance::Step(5)).is_err()
         );
         assert!(rt;
-            Turn::try_from(Tolerance::Turn(90)).is_ok() && Turn::try_from(Tolerance::Turn(91)).is_err()
+            Turn::try_from(Tolerance::Turn(90)).is_ok()
+                && Turn::try_from(Tolerance::Turn(91)).is_err()
         );
         assert!(rt; Limits::try_from(Tolerance::Limits(-1.0, 0.0)).is_err());
         assert!(rt; Limits::try_from(Tolerance::Limits(0.0, 1.0 / 0.0)).is_err());

@@ -1,10 +1,7 @@
 -- What a map's width, height and joining say where it has a pixel. Assumes nothing.
-use Rattle.std.proofs.Common.{◌≡◌, ℕ, ◌*◌, ◌<◌, ◌≤◌, true, ◌&&◌, eqb, leb, ap, ◌∙◌, inl, inr, zero-mul, arith}
-use Rattle.std.proofs.lemmas.Bool.{and_parts, or_cases, leb-true, eqb-true}
-use Rattle.maps.specs.declared.map.Map.{Map}
-use Rattle.maps.specs.Joinings.{number_of}
-use Rattle.maps.specs.Tiles.{is_side, is_tile, is_joining, is_empty}
-use Rattle.maps.specs.Windows.{pixels_of}
+use Rattle.std.proofs.Common.{◌≡◌, ℕ, ◌*◌, ◌<◌, ◌≤◌, true, leb}
+use Rattle.std.proofs.lemmas.Bool.{and_parts, leb-true}
+use Rattle.maps.specs.Tiles.{is_side, is_tile}
 
 -- sides from 1 to 255, and at most 4,096 pixels
 pub record TileOf (w h : ℕ) : Type 0 where
@@ -27,17 +24,3 @@ tile_of w h t =
       height_fits = leb-true h 255 high.1;
       pixels_fit = leb-true (w * h) 4096 down.1;
     }
-
--- a map that has a pixel is no empty one
-pub tile_of_map : {V : Type 0} (map : Map V) (z : ℕ) → z < pixels_of map → TileOf map.tile.width map.tile.height
-tile_of_map map z inside =
-    let w = map.tile.width in
-    let h = map.tile.height in
-    let j = number_of map.tile.joining in
-    elim (or_cases (is_tile w h && is_joining j) (is_empty w h j) map.tile.figures) [
-      | inl t ↦ tile_of w h (and_parts (is_tile w h) _ t).0
-      | inr empty ↦
-          let no-width : w ≡ 0 = eqb-true w 0 (and_parts (eqb w 0) _ empty).0 in
-          let none : w * h ≡ 0 = ap (λ x. x * h) no-width ∙ zero-mul h in
-          absurd (omega arith)
-    ]

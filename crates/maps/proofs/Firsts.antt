@@ -1,5 +1,5 @@
 -- The search for the first value that is not admitted. Assumes nothing.
-use Rattle.std.proofs.Common.{◌≡◌, ℕ, ◌<◌, ◌≤◌, Bool, true, false, cond, not, nat_lt, List, length, Some, None, Option, refl, sym, ap, ◌∙◌, inl, inr, arith}
+use Rattle.std.proofs.Common.{◌≡◌, ℕ, ◌<◌, ◌≤◌, Bool, true, false, cond, not, nat_lt, List, length, Some, None, Option, refl, sym, ap, ◌∙◌, subst, inl, inr, arith}
 use Rattle.std.specs.List.{position_or_len}
 use Rattle.std.proofs.lemmas.Bool.{both_ways, cases_order, not-true, not-false, ltb-true, ltb-false}
 use Rattle.std.proofs.lemmas.List.Sums.{fails_before_first, passes_at_first}
@@ -22,16 +22,19 @@ module _ {V : Type 0} (admits : V → Bool) where
       let within : i < length values = ltb-true _ _ e in
       let here = at_some values i within in
       first_at here.1 (is_refused (at_is here.0 here.1) (passes_at_first test values here.0 within))
-        (λ k u early a. is_admitted (at_is u a) (fails_before_first test values k u early))
+      (λ k u early a. is_admitted (at_is u a) (fails_before_first test values k u early))
   by_place values false e =
       let test : V → Bool = λ v. not (admits v) in
       let past : length values ≤ position_or_len test values = ltb-false _ _ e in
       all_admitted (λ k u a. let bound = at_bound a in
-        is_admitted (at_is u a) (fails_before_first test values k u (omega arith)))
+      is_admitted (at_is u a) (fails_before_first test values k u (omega arith)))
 
   -- the search finds the first value that is not admitted
   pub first_not_is : (values : List V) → FirstNot admits values (first_not admits values)
   first_not_is values = by_place values _ refl
+
+  pub first_not_at : {values : List V} {r : Option ℕ} → r ≡ first_not admits values → FirstNot admits values r
+  first_not_at {values} e = subst (FirstNot admits values) (sym e) (first_not_is values)
 
   -- there is but one answer
   pub first_not_one : {values : List V} {r s : Option ℕ} → FirstNot admits values r → FirstNot admits values s → r ≡ s

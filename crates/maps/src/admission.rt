@@ -15,6 +15,7 @@ fn search<C: Criterion>(criterion: &C, map: &Map<C::Value>) -> Option<usize>
 }
 
 // The first pixel whose value is not admitted, or that there is none.
+#[tactic(auto, using(crate::proofs::Firsts::first_not_at))]
 pub fn first_inadmissible<C: Criterion>(criterion: &C, map: &Map<C::Value>) -> Option<usize>
     ensures value { result ≡ inadmissible (C.judgement criterion.now) map.now }
     ensures first { FirstNot (C.judgement criterion.now).admits map.now.values.now result }

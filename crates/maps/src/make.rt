@@ -43,6 +43,13 @@ impl<'a, V> Map<'a, V> {
         Ok(())
     }
 
+    // The tile that the values cover.
+    pub fn tile(&self) -> Tile
+        ensures { result ≡ self.now.tile }
+    {
+        self.tile
+    }
+
     // How many pixels the map has.
     pub fn pixels(&self) -> usize
         ensures { result ≡ pixels_of self.now }

@@ -20,13 +20,6 @@ impl<'a, V> Map<'a, V> {
         self.values
     }
 
-    // The tile that the values cover.
-    pub fn tile(&self) -> Tile
-        ensures { result ≡ self.now.tile }
-    {
-        self.tile
-    }
-
     pub fn width(&self) -> usize
         ensures { result ≡ self.now.tile.width }
     {

@@ -7,5 +7,4 @@ pub mod Visiting
 pub mod Turning
 pub mod Drawing
 pub mod Showing
-pub mod Accepting
 pub mod Worked

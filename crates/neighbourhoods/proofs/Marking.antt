@@ -1,5 +1,5 @@
 -- Marks put one after another, and taken off again. Assumes nothing.
-use Rattle.std.proofs.Common.{◌≡◌, ℕ, suc, ◌<◌, ◌≤◌, true, false, eqb, ◌≢◌, ◌⊎◌, List, [], ◌∷◌, ◌++◌, length, get_or, take, set, sym, refl, ap, ap₂, ◌∙◌, subst, inl, inr, arith}
+use Rattle.std.proofs.Common.{◌≡◌, ℕ, suc, ◌<◌, ◌≤◌, true, false, eqb, ◌≢◌, ◌⊎◌, List, [], ◌∷◌, ◌++◌, length, get_or, set, sym, refl, ap, ap₂, ◌∙◌, subst, inl, inr}
 use Rattle.std.proofs.lemmas.List.{get_or-set_same, get_or-set_other, get_or_past, get_or-replicate, length-replicate, length-set, set-set, set-get_or, set_comm, set_past}
 use Rattle.std.proofs.lemmas.Bool.{both_ways, cases_eq, cases_lt, eq-eqb, eqb-true}
 use Rattle.morphology.specs.Pictures.{At, here, later}
@@ -13,10 +13,6 @@ module _ (m : List ℕ) (p : ℕ) where
   pub marked_length : length (marked m p) ≡ length m
   unfolding marked
   marked_length = length-set m p 1
-
-  pub unmarked_length : length (unmarked m p) ≡ length m
-  unfolding unmarked
-  unmarked_length = length-set m p 0
 
   pub marked_here : p < served (length m) → free (marked m p) p ≡ false
   unfolding served free marked

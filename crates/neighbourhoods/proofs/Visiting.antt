@@ -1,13 +1,11 @@
 -- Visits of a pixel's neighbours, one after another. Assumes nothing.
 use Rattle.std.proofs.Common.{◌≡◌, ℕ, ◌+◌, ◌*◌, ◌<◌, ◌≤◌, Bool, List, [], ◌∷◌, map, length, get_or, drop, Some, None, Option, sym, refl, ap, ◌∙◌, subst, ap₂}
 use Rattle.std.proofs.lemmas.List.{at_drop_more, at_drop_all}
-use Rattle.morphology.proofs.Values.{at_getD}
 use Rattle.neighbourhoods.specs.declared.steps.Step.{Step}
 use Rattle.neighbourhoods.specs.declared.place.Place.{Place}
-use Rattle.neighbourhoods.specs.Steps.{steps_of, place_of, led, neighbours, Leads}
+use Rattle.neighbourhoods.specs.Steps.{steps_of, place_of, led, neighbours}
 use Rattle.neighbourhoods.specs.Finds.{Finds, visited, visit_each, Room}
 use Rattle.neighbourhoods.proofs.Rooms.{room_visited}
-use Rattle.neighbourhoods.proofs.Stepping.{steps_lead}
 
 -- tests that agree take in the same pixels
 pub visit_each_same : (near near' : ℕ → Bool) → ((p : ℕ) → near p ≡ near' p) → (ps : List (Option ℕ)) (f : Finds) →
@@ -59,11 +57,6 @@ module _ (near : ℕ → Bool) (w h j p : ℕ) (start : Finds) where
       to_pixel {q} there inside is-near visit =
           subst (Expanding (i + 1)) (ap (λ x. visited x q f) is-near ∙ sym visit)
           (record { room = room_visited e.room q inside (near q); same = rest there })
-
-      pub step_inside : p < w * h → {q : ℕ} → Some q ≡ led w h (get_or ss i s) at → q < w * h
-      step_inside inside {q} there =
-          let l : Leads w h j p i q = record { by = get_or (steps_of j) i s; listed = at_getD (steps_of j) i s is_listed; there = sym (there ∙ leads) } in
-          (steps_lead w h j p inside).inside l
 
     pub after_steps : length ss ≤ i → f ≡ visit_each near (neighbours w h j p) start
     unfolding from_step

@@ -1,5 +1,5 @@
 -- What a flood does with marks and queue, visit by visit. Assumes nothing.
-use Rattle.std.specs.Prelude.{ℕ, zero, suc, ◌+◌, ◌≤◌, Bool, cond, ◌&&◌, List, [], ◌∷◌, length, take, Some, None, Option, slice_index, slice_set}
+use Rattle.std.specs.Prelude.{ℕ, zero, suc, ◌+◌, ◌≤◌, Bool, cond, ◌&&◌, List, [], ◌∷◌, length, take, Some, None, Option, slice_set}
 use Rattle.std.specs.List.{fold}
 use Rattle.criteria.specs.Criteria.{Judgement}
 use Rattle.maps.specs.declared.map.Map.{Map}
@@ -43,10 +43,6 @@ near_centre j m centre p = value_passes m.values.now p (j.near centre)
 -- the visits of all neighbours of a pixel
 abbrev pub expanded : {V : Type 0} → Judgement V → Map V → V → ℕ → Finds → Finds
 expanded j m centre p f = visit_each (near_centre j m centre) (neighbours m.tile.width m.tile.height (number_of m.tile.joining) p) f
-
--- the same for the pixel at this place in the queue
-abbrev pub expanded_at : {V : Type 0} → Judgement V → Map V → V → ℕ → Finds → Finds
-expanded_at j m centre place f = expanded j m centre (slice_index f.queue place) f
 
 -- how many numbers below n pass the test
 abbrev pub count_below : ℕ → (ℕ → Bool) → ℕ

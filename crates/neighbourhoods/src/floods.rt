@@ -4,13 +4,14 @@ ghost use Rattle.std.specs.Result.{result_err};
 ghost use Rattle.maps.specs.Windows.{pixels_of};
 ghost use Rattle.maps.specs.Grounds.{ground};
 ghost use Rattle.neighbourhoods.specs.Marks.{served, free};
-ghost use Rattle.neighbourhoods.specs.Finds.{finds, visited, expanded, expanded_at, Room, unmark_all};
+ghost use Rattle.neighbourhoods.specs.Finds.{finds, visited, expanded, Room, unmark_all};
 ghost use Rattle.neighbourhoods.specs.Floods.{flood_fault, Flooded, SpreadOut, QueueAfter};
 
 use crate::checks::check_flood;
 use crate::marks::{clear, is_free, put};
 use crate::place::Place;
 use crate::steps::steps;
+use crate::values::value_at;
 use criteria::{Criterion, MapFault};
 use maps::Map;
 
@@ -55,29 +56,11 @@ fn expand<C: Criterion>(
     let mut count = found;
     for step in steps(map) {
         if let Some(next) = place.after(*step, map) {
-            let value = map.values()[next];
+            let value = value_at(map, next);
             count = visit(criterion, centre, value, next, marks, queue, count);
         }
     }
     count
-}
-
-// Visits the neighbours of the pixel that stands at this place in the queue.
-fn expand_queued<C: Criterion>(
-    criterion: &C,
-    map: &Map<C::Value>,
-    centre: C::Value,
-    place: usize,
-    marks: &mut [u8],
-    queue: &mut [u32],
-    found: usize,
-) -> usize
-    requires queued { (place < length queue.old) × (slice_index queue.old place < pixels_of map.now) }
-    requires room { Room (pixels_of map.now) (finds marks.old queue.old found) }
-    ensures { finds marks.new queue.new result ≡ expanded_at (C.judgement criterion.now) map.now centre place (finds marks.old queue.old found) }
-{
-    let pixel = queue[place] as usize;
-    expand(criterion, map, centre, pixel, marks, queue, found)
 }
 
 // Frees the listed pixels.
@@ -102,11 +85,12 @@ fn spread<C: Criterion>(
     requires room { (pixels_of map.now ≤ served (length marks.old)) × (pixels_of map.now ≤ length queue.old) }
     ensures { SpreadOut (ground (C.judgement criterion.now) map.now) z marks.old queue.old (finds marks.new queue.new result) }
 {
-    let centre = map.values()[z];
+    let centre = value_at(map, z);
     let mut found = visit(criterion, centre, centre, z, marks, queue, 0);
     let mut done = 0;
     while done < found {
-        found = expand_queued(criterion, map, centre, done, marks, queue, found);
+        let pixel = queue[done] as usize;
+        found = expand(criterion, map, centre, pixel, marks, queue, found);
         done += 1;
     }
     found

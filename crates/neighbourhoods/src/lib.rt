@@ -11,6 +11,7 @@ mod sheets;
 mod slices;
 mod steps;
 mod theorems;
+mod values;
 
 pub use floods::flood;
 pub use lent::Lent;

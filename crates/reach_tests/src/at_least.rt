@@ -4,7 +4,7 @@ ghost use Rattle.std.proofs.Common.{rules};
 
 use criteria::Criterion;
 
-#[derive(Clone, Copy)]
+#[derive(Clone, Copy, PartialEq, Eq, Debug)]
 pub struct AtLeast;
 
 impl Criterion for AtLeast {

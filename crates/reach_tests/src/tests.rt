@@ -1,13 +1,13 @@
 // What the calls do on small maps.
 use crate::at_least::AtLeast;
-use criteria::{Limits, MapFault, ReflectanceBits, Step, Tolerance, Turn};
+use criteria::{Counted, Limits, MapFault, Part, ReflectanceBits, Step, Tolerance, Turn};
 use maps::{Map, first_inadmissible, tile_pixels};
 use neighbourhoods::{flood, reach_symmetric, reach_weak};
 use std::test::Fail;
 
 // The sheet of the weak neighbourhood of pixel 0 on the map 0 50 50 0, two by two, with step 0.
 fn weak_of_0(joining: u8) -> Result<[u8; 4], MapFault> {
-    let step = Step::new(Tolerance::Step(0))?;
+    let step = Step::try_from(Tolerance::Step(0))?;
     let values = [0, 50, 50, 0];
     let mut map = Map::empty();
     map.make(2, 2, joining, &values)?;
@@ -54,7 +54,7 @@ fn the_centre_is_the_centre(rt: HostRuntime) -> Result<(), Fail> {
 
 #[test]
 fn a_refused_reach_leaves_the_sheet(rt: HostRuntime) -> Result<(), Fail> {
-    let turn = Turn::new(Tolerance::Turn(5))?;
+    let turn = Turn::try_from(Tolerance::Turn(5))?;
     let values = [10, 200, 10];
     let mut map = Map::empty();
     map.make(3, 1, 4, &values)?;
@@ -68,7 +68,7 @@ fn a_refused_reach_leaves_the_sheet(rt: HostRuntime) -> Result<(), Fail> {
     );
     assert_eq!(rt;
         reach_weak(&turn, &map, 0, &mut long, &mut marks, &mut queue),
-        Err(MapFault::Misfit(2))
+        Err(MapFault::Misfit(Counted::Sheet))
     );
     assert_eq!(rt;
         reach_symmetric(&turn, &map, 0, &mut sheet, &mut marks, &mut queue),
@@ -81,7 +81,7 @@ fn a_refused_reach_leaves_the_sheet(rt: HostRuntime) -> Result<(), Fail> {
 
 #[test]
 fn the_empty_map_has_no_pixel(rt: HostRuntime) -> Result<(), Fail> {
-    let turn = Turn::new(Tolerance::Turn(5))?;
+    let turn = Turn::try_from(Tolerance::Turn(5))?;
     let map = Map::empty();
     assert_eq!(rt;
         reach_weak(&turn, &map, 0, &mut [], &mut [], &mut []),
@@ -98,17 +98,20 @@ fn a_map_may_be_filled_again(rt: HostRuntime) -> Result<(), Fail> {
     let mut map = Map::empty();
     map.make(2, 1, 4, &first)?;
     assert_eq!(rt; map.make(3, 1, 6, &second), Err(MapFault::Joining(6)));
-    assert_eq!(rt; map.make(2, 2, 8, &second), Err(MapFault::Misfit(1)));
+    assert_eq!(rt;
+        map.make(2, 2, 8, &second),
+        Err(MapFault::Misfit(Counted::Values))
+    );
     assert_eq!(rt; map.pixels(), 2);
     map.make(1, 3, 8, &second)?;
     assert_eq!(rt; map.height(), 3);
-    assert_eq!(rt; map.joining(), 8);
+    assert_eq!(rt; u8::from(map.joining()), 8);
     Ok(())
 }
 
 #[test]
 fn short_scratch_is_refused_and_cleared(rt: HostRuntime) -> Result<(), Fail> {
-    let step = Step::new(Tolerance::Step(0))?;
+    let step = Step::try_from(Tolerance::Step(0))?;
     let values = [1, 1, 1];
     let mut map = Map::empty();
     map.make(1, 3, 8, &values)?;
@@ -119,11 +122,11 @@ fn short_scratch_is_refused_and_cleared(rt: HostRuntime) -> Result<(), Fail> {
     let mut short_queue = [7; 2];
     assert_eq!(rt;
         reach_weak(&step, &map, 0, &mut sheet, &mut short_marks, &mut queue),
-        Err(MapFault::Scratch(1))
+        Err(MapFault::Scratch(Part::Marks))
     );
     assert_eq!(rt;
         reach_symmetric(&step, &map, 0, &mut sheet, &mut marks, &mut short_queue),
-        Err(MapFault::Scratch(2))
+        Err(MapFault::Scratch(Part::Queue))
     );
     assert!(rt; sheet == [9; 3] && short_marks == [0; 2] && short_queue == [0; 2]);
     assert!(rt; marks == [0; 3] && queue == [0; 3]);
@@ -133,7 +136,7 @@ fn short_scratch_is_refused_and_cleared(rt: HostRuntime) -> Result<(), Fail> {
 // A NaN is near nothing, so its own neighbourhood is empty.
 #[test]
 fn a_flood_may_find_nothing(rt: HostRuntime) -> Result<(), Fail> {
-    let limits = Limits::new(Tolerance::Limits(1.0, 1.0))?;
+    let limits = Limits::try_from(Tolerance::Limits(1.0, 1.0))?;
     let values = [
         ReflectanceBits {
             mean: 0x7fc0_0001,

@@ -1,12 +1,9 @@
-use Rattle.std.proofs.Common.{◌≡◌, ◌≤◌, length, sym, refl, ap, ◌∙◌, subst, arith}
+use Rattle.std.proofs.Common.{sym, ◌∙◌, arith}
 use Rattle.maps.specs.Windows.{pixels_of}
 use Rattle.maps.specs.Grounds.{ground}
 use Rattle.std.proofs.lemmas.Bool.{false≢true}
-use Rattle.neighbourhoods.specs.Marks.{served}
-use Rattle.neighbourhoods.specs.Zeros.{zeros}
 use Rattle.neighbourhoods.proofs.Listing.{listed_in, in_listed}
-use Rattle.neighbourhoods.proofs.Drawing.{Shows}
-use Rattle.neighbourhoods.proofs.Showing.{Held, cleared, listed_inside, none_held, flood_drawn, flood_passed, all_held}
+use Rattle.neighbourhoods.proofs.Showing.{cleared, listed_inside, flood_drawn, flood_passed, all_held}
 use Rattle.neighbourhoods.proofs.reach.show_symmetric.Goals as goal
 use Rattle.neighbourhoods.proofs.reach.show_symmetric.Goals.{then-lists, else-lists}
 

@@ -1,5 +1,4 @@
 use Rattle.std.proofs.Common.{◌≡◌, length, take, ap, ◌∙◌, arith}
-use lib.ListN.{length-replicate}
 use Rattle.maps.specs.Windows.{pixels_of}
 use Rattle.neighbourhoods.specs.Zeros.{zeros}
 use Rattle.neighbourhoods.specs.Sheets.{drawn}
