@@ -21,6 +21,11 @@ scratch_checks map marks queue =
     record { holds = nat_le (pixels_of map) (served (length marks)); fault = Scratch part.Marks }
     ∷ record { holds = nat_le (pixels_of map) (length queue); fault = Scratch part.Queue } ∷ []
 
+-- Marks and queue have an entry for every pixel of the map.
+pub record Serving {V : Type 0} (map : Map V) (marks queue : List ℕ) : Type 0 where
+  pub marks_serve : pixels_of map ≤ served (length marks)
+  pub queue_serves : pixels_of map ≤ length queue
+
 -- what is wrong with a flood from z, if anything is
 abbrev pub flood_fault : {V : Type 0} → Map V → ℕ → List ℕ → List ℕ → Option MapFault
 flood_fault map z marks queue = first_fault (pixel_check map z ∷ scratch_checks map marks queue)

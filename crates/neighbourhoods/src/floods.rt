@@ -5,7 +5,7 @@ ghost use Rattle.maps.specs.Windows.{pixels_of};
 ghost use Rattle.maps.specs.Grounds.{ground};
 ghost use Rattle.neighbourhoods.specs.Marks.{served, free};
 ghost use Rattle.neighbourhoods.specs.Finds.{finds, visited, expanded, Room, unmark_all};
-ghost use Rattle.neighbourhoods.specs.Floods.{flood_fault, Flooded, SpreadOut, QueueAfter};
+ghost use Rattle.neighbourhoods.specs.Floods.{flood_fault, Serving, Flooded, SpreadOut, QueueAfter};
 
 use crate::checks::check_flood;
 use crate::marks::{clear, is_free, put};
@@ -82,7 +82,7 @@ fn spread<C: Criterion>(
     queue: &mut [u32],
 ) -> usize
     requires pixel { z < pixels_of map.now }
-    requires room { (pixels_of map.now ≤ served (length marks.old)) × (pixels_of map.now ≤ length queue.old) }
+    requires room { Serving map.now marks.old queue.old }
     ensures { SpreadOut (ground (C.judgement criterion.now) map.now) z marks.old queue.old (finds marks.new queue.new result) }
 {
     let centre = value_at(map, z);
@@ -105,7 +105,7 @@ pub(crate) fn flood_within<C: Criterion>(
     queue: &mut [u32],
 ) -> usize
     requires pixel { z < pixels_of map.now }
-    requires room { (pixels_of map.now ≤ served (length marks.old)) × (pixels_of map.now ≤ length queue.old) }
+    requires room { Serving map.now marks.old queue.old }
     ensures marks_kept { marks.new ≡ marks.old }
     ensures flooded { Flooded (ground (C.judgement criterion.now) map.now) z marks.old queue.old queue.new result }
 {

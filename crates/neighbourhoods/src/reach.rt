@@ -1,10 +1,10 @@
 // The two reach calls: a neighbourhood shown on a sheet of bytes.
-ghost use Rattle.std.specs.Prelude.{◌≡◌, ◌<◌, ◌≤◌, length};
+ghost use Rattle.std.specs.Prelude.{◌≡◌, ◌<◌, length};
 ghost use Rattle.maps.specs.Checks.{left_by};
 ghost use Rattle.maps.specs.Windows.{pixels_of};
 ghost use Rattle.maps.specs.Grounds.{ground};
 ghost use Rattle.neighbourhoods.specs.Zeros.{zeros};
-ghost use Rattle.neighbourhoods.specs.Marks.{served};
+ghost use Rattle.neighbourhoods.specs.Floods.{Serving};
 ghost use Rattle.neighbourhoods.specs.Sheets.{reach_answer, weak_sheet, symmetric_sheet};
 
 use crate::checks::check_reach;
@@ -24,8 +24,9 @@ fn show_weak<C: Criterion>(
     marks: &mut [u8],
     queue: &mut [u32],
 )
-    requires pixel { (pixel < pixels_of map.now) × (length sheet.old ≡ pixels_of map.now) }
-    requires room { (pixels_of map.now ≤ served (length marks.old)) × (pixels_of map.now ≤ length queue.old) }
+    requires pixel { pixel < pixels_of map.now }
+    requires sheet { length sheet.old ≡ pixels_of map.now }
+    requires room { Serving map.now marks.old queue.old }
     ensures { sheet.new ≡ weak_sheet (ground (C.judgement criterion.now) map.now) pixel }
 {
     clear_all(marks);
@@ -44,8 +45,9 @@ fn show_symmetric<C: Criterion>(
     marks: &mut [u8],
     queue: &mut [u32],
 )
-    requires pixel { (pixel < pixels_of map.now) × (length sheet.old ≡ pixels_of map.now) }
-    requires room { (pixels_of map.now ≤ served (length marks.old)) × (pixels_of map.now ≤ length queue.old) }
+    requires pixel { pixel < pixels_of map.now }
+    requires sheet { length sheet.old ≡ pixels_of map.now }
+    requires room { Serving map.now marks.old queue.old }
     ensures { sheet.new ≡ symmetric_sheet (ground (C.judgement criterion.now) map.now) pixel }
 {
     clear_all(marks);
