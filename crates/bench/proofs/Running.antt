@@ -20,7 +20,7 @@ use Rattle.bench.specs.declared.bench.Bench.{Bench}
 use Rattle.bench.specs.declared.fault.BenchFault.{BenchFault}
 use Rattle.bench.specs.Settings.{Setting, ground_of, Standing, standing, Asked}
 use Rattle.bench.specs.Checks.{from_map, picture_fits, matches, scratch_checks, level_checks, filter_checks}
-use Rattle.bench.specs.Steps.{operated}
+use Rattle.operators.specs.Operations.{operated}
 use Rattle.bench.specs.Calls.{Answer, Filtered, Run, no_call, one_more}
 use Rattle.bench.specs.Tallies as tallies
 use Rattle.bench.specs.Tallies.{Tally, empty, counted, tally_checks, Tallied, accepts, refuses, LawsOfTally}

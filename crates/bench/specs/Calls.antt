@@ -5,7 +5,7 @@ use Rattle.morphology.specs.Levels.{moved}
 use Rattle.bench.specs.declared.fault.BenchFault.{BenchFault}
 use Rattle.bench.specs.Settings.{Setting, ground_of, Standing, Asked}
 use Rattle.bench.specs.Checks.{filter_checks}
-use Rattle.bench.specs.Steps.{operated}
+use Rattle.operators.specs.Operations.{operated}
 
 -- the present level, or why the call is refused
 abbrev pub Answer : Type 0

@@ -7,11 +7,11 @@ use crate::bench::Bench;
 use crate::checks::check_handed;
 use crate::fault::BenchFault;
 use crate::scratch::{Room, Scratch};
-use crate::step::operate;
 use criteria::Criterion;
 use maps::Map;
 use morphology::Operation;
 use neighbourhoods::{Marks, Queue, fill};
+use operators::operate;
 use scales::Scale;
 
 // Does the call or refuses it, and leaves the scratch as it comes.
@@ -37,10 +37,10 @@ fn attempt<C: Criterion, S: Scale>(
     };
     check_handed(map, criterion, bench.tile, picture.len(), room)?;
     let levels = bench.advance(operation, size)?;
-    fill(marks, 0);
     operate(
         operation, size, map, criterion, picture, marks, queue, spare,
-    );
+    )
+    .unwrap();
     Ok(levels.present)
 }
 

@@ -59,7 +59,6 @@ fn check_room<C: Criterion>(
     room: Room,
 ) -> Result<(), BenchFault>
     ensures answer { result ≡ answered (first_fault (room_checks (C.judgement criterion.now) map.now room)) tt }
-    ensures admitted { OnOk result (inadmissible (C.judgement criterion.now) map.now ≡ None) }
     ensures marks { OnOk result (pixels_of map.now ≤ room.marks) }
     ensures queue { OnOk result (pixels_of map.now ≤ room.queue) }
     ensures spare { OnOk result (pixels_of map.now ≤ room.spare) }
@@ -87,7 +86,6 @@ pub(crate) fn check_handed<C: Criterion>(
 ) -> Result<(), BenchFault>
     ensures answer { result ≡ answered
         (first_fault (handed_checks (C.judgement criterion.now) map.now tile count room)) tt }
-    ensures admitted { OnOk result (inadmissible (C.judgement criterion.now) map.now ≡ None) }
     ensures picture { OnOk result (count ≡ pixels_of map.now) }
     ensures marks { OnOk result (pixels_of map.now ≤ room.marks) }
     ensures queue { OnOk result (pixels_of map.now ≤ room.queue) }

@@ -10,7 +10,6 @@ mod levels;
 mod note;
 mod scratch;
 mod seating;
-mod step;
 
 pub use bench::Bench;
 pub use calls::{close, dilate, erode, open};

@@ -67,5 +67,5 @@ returns g c =
       levels_are = e.levels;
       count_is = e.count;
       tile_stays = e.tile;
-      picture_is = c.operate.ensures;
+      picture_is = rw c.unwrap.ensures at c.operate.ensures.picture;
     }
