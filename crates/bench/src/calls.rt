@@ -51,8 +51,8 @@ fn clear_spare<S: Scale>(spare: &mut [S])
     fill(spare, S::lowest());
 }
 
-// Does the call or refuses it, and leaves the scratch clear however it ends.
-fn filter<C: Criterion, S: Scale>(
+// Does the filter call of this operation or refuses it, and leaves the scratch clear however it ends.
+pub fn filter<C: Criterion, S: Scale>(
     operation: Operation,
     size: u8,
     bench: &mut Bench,

@@ -12,7 +12,7 @@ mod scratch;
 mod seating;
 
 pub use bench::Bench;
-pub use calls::{close, dilate, erode, open};
+pub use calls::{close, dilate, erode, filter, open};
 pub use fault::BenchFault;
 pub use gaps::residue;
 pub use note::{Note, finish};
