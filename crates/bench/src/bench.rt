@@ -1,6 +1,8 @@
 // The bench: the tile of its map, its levels, and how many calls it has accepted.
-ghost use Rattle.std.specs.Prelude.{◌≡◌, ◌≤◌, pos, negsuc, ◌≤ℤ◌};
+ghost use Rattle.std.specs.Prelude.{◌≡◌, ◌≤◌};
+ghost use Rattle.morphology.specs.Levels.{at_zero};
 
+use crate::book::Book;
 use morphology::Levels;
 
 // Width, height and joining of the map with which a picture was seated.
@@ -15,27 +17,34 @@ pub struct Tile {
 #[derive(Drop)]
 pub struct Bench {
     pub(crate) tile: Tile,
-    pub(crate) levels: Levels,
-    pub(crate) count: u16,
-    ghost floor: { negsuc 63 ≤ℤ levels.lowest },
-    ghost low: { levels.lowest ≤ℤ levels.present },
-    ghost high: { levels.present ≤ℤ levels.highest },
-    ghost ceiling: { levels.highest ≤ℤ pos 64 },
-    ghost booked: { count ≤ 60000 },
+    pub(crate) book: Book,
+    ghost booked: { book.count ≤ 60000 },
 }
 
 impl Bench {
+    // A bench for this tile, its levels at 0 and its book empty.
+    pub(crate) fn new(tile: Tile) -> Bench
+        ensures tile { result.tile ≡ tile }
+        ensures levels { result.book.levels ≡ at_zero }
+        ensures count { result.book.count ≡ 0 }
+    {
+        Bench {
+            tile,
+            book: Book::empty(),
+        }
+    }
+
     // The present, the lowest and the highest level.
     pub fn levels(&self) -> Levels
-        ensures { result ≡ self.now.levels }
+        ensures { result ≡ self.now.book.levels }
     {
-        self.levels
+        self.book.levels
     }
 
     // How many calls were accepted.
     pub fn count(&self) -> u16
-        ensures { result ≡ self.now.count }
+        ensures { result ≡ self.now.book.count }
     {
-        self.count
+        self.book.count
     }
 }

@@ -36,12 +36,12 @@ fn attempt<C: Criterion, S: Scale>(
         spare: spare.len(),
     };
     check_handed(map, criterion, bench.tile, picture.len(), room)?;
-    let levels = bench.advance(operation, size)?;
+    let level = bench.book.advance(operation, size)?;
     operate(
         operation, size, map, criterion, picture, marks, queue, spare,
     )
     .unwrap();
-    Ok(levels.present)
+    Ok(level)
 }
 
 // Writes the lowest value into each element.

@@ -2,11 +2,11 @@
 #![tactic(auto)]
 
 mod bench;
+mod book;
 mod calls;
 mod checks;
 mod fault;
 mod gaps;
-mod levels;
 mod note;
 mod scratch;
 mod seating;

@@ -4,22 +4,21 @@ use Rattle.std.proofs.lemmas.Int.{to_z-of_z}
 use Rattle.morphology.specs.Levels.{left_at}
 use Rattle.bench.specs.Bounds.{Inside}
 use Rattle.bench.proofs.Reaching.{same_levels, stays_inside}
-use Rattle.bench.proofs.levels.reach.Goals as goal
+use Rattle.bench.proofs.book.Book.reach.Goals as goal
 
 pub returns : goal.returns
 returns c =
-    let l = c.args.levels in
+    let l = c.args.self.levels in
     let o = c.args.operation in
     let t = c.args.level in
     let level : to_z w8 (of_z w8 t) ≡ t = to_z-of_z w8 t c.ranges.level in
-    let present : to_z w8 (of_z w8 l.present) ≡ l.present = to_z-of_z w8 l.present (search rules) in
     let lowest : to_z w8 (of_z w8 l.lowest) ≡ l.lowest = to_z-of_z w8 l.lowest (search rules) in
     let highest : to_z w8 (of_z w8 l.highest) ≡ l.highest = to_z-of_z w8 l.highest (search rules) in
     let at : to_z w8 (of_z w8 c.rest.result) ≡ left_at o t l.present =
-    to_z-of_z w8 c.rest.result (record { sfits = c.rest.type_inv }) ∙ (rw (level, present) at c.rest.ensures) in
+    to_z-of_z w8 c.rest.result (record { sfits = c.rest.type_inv }) ∙ (rw level at c.rest.ensures) in
     let down : to_z w8 (of_z w8 c.min.result) ≡ int_min l.lowest t =
     to_z-of_z w8 c.min.result (record { sfits = c.min.type_inv }) ∙ (rw (level, lowest) at c.min.ensures.value) in
     let up : to_z w8 (of_z w8 c.max.result) ≡ int_max l.highest t =
     to_z-of_z w8 c.max.result (record { sfits = c.max.type_inv }) ∙ (rw (level, highest) at c.max.ensures.value) in
     let value = same_levels at down up in
-    record { value = value; inside = subst Inside (sym value) (stays_inside o t l c.requires.inside c.requires.level.0 c.requires.level.1) }
+    record { value = value; inside = subst Inside (sym value) (stays_inside o t l c.args.self.inside c.requires.0 c.requires.1) }
