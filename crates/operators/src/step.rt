@@ -1,5 +1,5 @@
 // One dilation or erosion of a picture, done centre by centre.
-ghost use Rattle.std.specs.Prelude.{◌≡◌, ◌<◌, ◌≤◌, length, take, slice_index_or, slice_set};
+ghost use Rattle.std.specs.Prelude.{◌≡◌, ◌<◌, ◌≤◌, length, take};
 ghost use Rattle.maps.specs.Windows.{pixels_of};
 ghost use Rattle.maps.specs.Grounds.{ground};
 ghost use Rattle.morphology.specs.Bounds.{JoinOf};
@@ -27,14 +27,6 @@ fn gather<O: Operator, S: Scale>(operator: O, own: S, picture: &[S], pixels: &[u
     all
 }
 
-// Joins the value into the spare picture at this pixel, or meets it.
-fn put_at<O: Operator, S: Scale>(operator: O, spare: &mut [S], pixel: usize, v: S)
-    requires { pixel < length spare.old }
-    ensures { spare.new ≡ slice_set spare.old pixel ((towards O.up S.grading).join (slice_index_or spare.old pixel v) v) }
-{
-    spare[pixel] = operator.pick(spare[pixel], v);
-}
-
 // Joins the value into the spare picture at each of the listed pixels, or meets it.
 fn put<O: Operator, S: Scale>(operator: O, spare: &mut [S], pixels: &[u32], v: S)
     requires within { Within (length spare.old) pixels.now }
@@ -42,7 +34,8 @@ fn put<O: Operator, S: Scale>(operator: O, spare: &mut [S], pixels: &[u32], v: S
     ensures { AllPut (towards O.up S.grading) (In pixels.now) v spare.old spare.new }
 {
     for &pixel in pixels {
-        put_at(operator, spare, pixel as usize, v);
+        let pixel = pixel as usize;
+        spare[pixel] = operator.pick(spare[pixel], v);
     }
 }
 
