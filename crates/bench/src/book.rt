@@ -73,9 +73,7 @@ impl Book {
 
     // The levels once an operation has touched `level`.
     fn reach(self, operation: Operation, level: i8) -> Levels
-        requires { (negsuc 63 ≤ℤ level) × (level ≤ℤ pos 64) }
-        ensures value { result ≡ reached operation level self.levels }
-        ensures inside { Inside result }
+        ensures { result ≡ reached operation level self.levels }
     {
         Levels {
             present: self.rest(operation, level),

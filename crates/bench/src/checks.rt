@@ -15,10 +15,7 @@ use maps::{Map, check_admitted};
 fn fits<V>(map: &Map<V>, tile: Tile) -> bool
     ensures { result ≡ matches map.now tile }
 {
-    map.pixels() > 0
-        && map.width() == tile.width
-        && map.height() == tile.height
-        && map.joining() == tile.joining
+    map.pixels() > 0 && Tile::of(map) == tile
 }
 
 // Refuses a map with a value that is not admitted.

@@ -19,9 +19,9 @@ returns g c =
     let L = g.met.S.Scale.lattice in
     let ok = c.in_ok-check_seat.ensures in
     let tile = c.new.ensures.tile in
-    let width = ap (λ (t : Tile). t.width) tile ∙ c.width.ensures in
-    let height = ap (λ (t : Tile). t.height) tile ∙ c.height.ensures in
-    let joining = ap (λ (t : Tile). t.joining) tile ∙ c.joining.ensures in
+    let width = ap (λ (t : Tile). t.width) tile ∙ c.of.ensures.width in
+    let height = ap (λ (t : Tile). t.height) tile ∙ c.of.ensures.height in
+    let joining = ap (λ (t : Tile). t.joining) tile ∙ c.of.ensures.joining in
     let b = c.new.result in
     let fits : matches map b.tile ≡ true =
     rw (lt-ltb 0 (pixels_of map) ok.filled, eq-eqb map.width b.tile.width (sym width), eq-eqb map.height b.tile.height (sym height), eq-eqb map.joining b.tile.joining (sym joining)) in
