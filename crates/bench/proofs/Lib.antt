@@ -2,5 +2,3 @@ pub mod Reaching
 pub mod Passing
 pub mod Summing
 pub mod Running
-pub mod Listed
-pub mod Sweeping

@@ -11,10 +11,6 @@ pub the_value : {V F : Type 0} (x : Option F) (u : V) {v : V} → Ok v ≡ answe
 the_value None u e = cc
 the_value (Some f) u e = let bad : ◌≡◌ {A = ℕ} 0 1 = cc in absurd (omega arith)
 
--- it answers another value, with nothing else changed
-pub same_checks : {V W F : Type 0} (x : Option F) (u : V) {v : V} (w : W) → Ok v ≡ answered x u → Ok w ≡ answered x w
-same_checks x u w e = sym (ap (λ y. answered y w) (no_fault x u e))
-
 module _ {F : Type 0} where
   past_one : (b : Bool) (x y : Option F) (f : F) {z : Option F} → (x ≡ None → y ≡ z) →
       cond b x (Some f) ≡ None → cond b y (Some f) ≡ z

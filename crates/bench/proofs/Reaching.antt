@@ -14,10 +14,6 @@ either Erode t z = inl refl
 either Open t z = inr refl
 either Close t z = inr refl
 
-pub same_levels : {p p' l l' h h' : ℤ} → p ≡ p' → l ≡ l' → h ≡ h' →
-    ◌≡◌ {A = Levels} (record { present = p; lowest = l; highest = h }) (record { present = p'; lowest = l'; highest = h' })
-same_levels a b c = rw (a, b, c) refl
-
 pub stays_inside : (o : Operation) (t : ℤ) (l : Levels) → Inside l → negsuc 63 ≤ℤ t → t ≤ℤ pos 64 → Inside (reached o t l)
 stays_inside o t l i above under =
     let floor = i.floor in

@@ -20,7 +20,7 @@ use Rattle.bench.specs.declared.bench.Bench.{Bench}
 use Rattle.bench.specs.declared.fault.BenchFault.{BenchFault}
 use Rattle.bench.specs.Settings.{Setting, ground_of, Standing, standing, Asked}
 use Rattle.bench.specs.Checks.{from_map, picture_fits, matches, scratch_checks, level_checks, filter_checks}
-use Rattle.bench.specs.Steps.{operated}
+use Rattle.operators.specs.Operations.{operated}
 use Rattle.bench.specs.Calls.{Answer, Filtered, Run, no_call, one_more}
 use Rattle.bench.specs.Tallies as tallies
 use Rattle.bench.specs.Tallies.{Tally, empty, counted, tally_checks, Tallied, accepts, refuses, LawsOfTally}
@@ -57,8 +57,8 @@ pub record Fits {V S : Type 0} (s : Setting V S) (at : Standing S) : Type 0 wher
 
 -- a bench and a tally at the same figures
 pub record Alike (b : Bench) (t : Tally) : Type 0 where
-  pub levels_are : b.levels ≡ t.levels
-  pub count_is : b.count ≡ t.count
+  pub levels_are : b.book.levels ≡ t.levels
+  pub count_is : b.book.count ≡ t.count
 
 -- a list of calls as a tally from t on tells it
 record Told {V S : Type 0} (s : Setting V S) (asked : List Asked) (answers : List Answer) (t : Tally) (p : List S) (after : Standing S) : Type 0 where
@@ -76,13 +76,13 @@ module _ {V S : Type 0} (s : Setting V S) where
       let n = pixels_of s.map in
       let scratch = scratch_checks n a.room in
       let admission = from_map (admission_check s.judgement s.map) in
-      let later = level_checks a.call at.bench.levels.present at.bench.count in
+      let later = level_checks a.call at.bench.book.levels.present at.bench.book.count in
       let rest = scratch ++ (admission ∷ later) in
       let picture = picture_fits s.map (length at.picture) in
       left_out [] _ (picture ∷ rest) fits.tile_fits
       ∙ left_out [] picture rest (eq-eqb (length at.picture) n fits.count_fits)
       ∙ left_out scratch admission later (ap (λ o. not (is_some o)) admits)
-      ∙ ap (λ (l : Levels). first_fault (scratch ++ level_checks a.call l.present at.bench.count)) alike.levels_are
+      ∙ ap (λ (l : Levels). first_fault (scratch ++ level_checks a.call l.present at.bench.book.count)) alike.levels_are
       ∙ ap (λ k. first_fault (scratch ++ level_checks a.call t.levels.present k)) alike.count_is
 
   fits_on : {a : Asked} {r : Answer} {before after : Standing S} → Filtered s a before r after → Fits s before → Fits s after
@@ -99,15 +99,15 @@ module _ {V S : Type 0} (s : Setting V S) where
       (F : Filtered s a before r between) (t : Tally) (alike : Alike before.bench t)
       (later : (u : Tally) → Alike between.bench u → Told s asked answers u between.picture after) where
     told_by : (x : Option BenchFault) → first_fault (tally_checks (pixels_of s.map) a t) ≡ x →
-        r ≡ answered x (moved a.call before.bench.levels).present → Told s (a ∷ asked) (r ∷ answers) t before.picture after
+        r ≡ answered x (moved a.call before.bench.book.levels).present → Told s (a ∷ asked) (r ∷ answers) t before.picture after
     told_by None none r-is =
         let b = before.bench in
         let c = a.call in
         let level : r ≡ Ok (moved c t.levels).present = r-is ∙ ap (λ l. Ok (moved c l).present) alike.levels_are in
         let done = operated s.scale (ground_of s) c.operation c.size before.picture in
         let rest = later (counted c t) (record {
-          levels_are = F.levels_are ∙ ap (λ q. left_by q (moved c b.levels) b.levels) r-is ∙ ap (moved c) alike.levels_are;
-          count_is = F.count_is ∙ ap (λ q. left_by q (b.count + 1) b.count) r-is ∙ ap (λ k. k + 1) alike.count_is;
+          levels_are = F.levels_are ∙ ap (λ q. left_by q (moved c b.book.levels) b.book.levels) r-is ∙ ap (moved c) alike.levels_are;
+          count_is = F.count_is ∙ ap (λ q. left_by q (b.book.count + 1) b.book.count) r-is ∙ ap (λ k. k + 1) alike.count_is;
         }) in
         let δ = dilation s.scale (ground_of s) in
         let ε = erosion s.scale (ground_of s) in
@@ -126,8 +126,8 @@ module _ {V S : Type 0} (s : Setting V S) where
         let c = a.call in
         let done = operated s.scale (ground_of s) c.operation c.size before.picture in
         let rest = later t (record {
-          levels_are = F.levels_are ∙ ap (λ q. left_by q (moved c b.levels) b.levels) r-is ∙ alike.levels_are;
-          count_is = F.count_is ∙ ap (λ q. left_by q (b.count + 1) b.count) r-is ∙ alike.count_is;
+          levels_are = F.levels_are ∙ ap (λ q. left_by q (moved c b.book.levels) b.book.levels) r-is ∙ alike.levels_are;
+          count_is = F.count_is ∙ ap (λ q. left_by q (b.book.count + 1) b.book.count) r-is ∙ alike.count_is;
         }) in
         let δ = dilation s.scale (ground_of s) in
         let ε = erosion s.scale (ground_of s) in
@@ -147,7 +147,7 @@ module _ {V S : Type 0} (s : Setting V S) where
   told admits no_call t fits alike = record { accepted = []; tally = t; tallied = tallies.no_call; alike = alike; picture_is = refl }
   told admits (one_more {a = a} {r = r} {before = before} F R) t fits alike =
       told_by F t alike (λ u same. told admits R u (fits_on F fits) same) (first_fault (tally_checks (pixels_of s.map) a t)) refl
-      (F.answer_is ∙ ap (λ x. answered x (moved a.call before.bench.levels).present) (checks_left admits a fits alike))
+      (F.answer_is ∙ ap (λ x. answered x (moved a.call before.bench.book.levels).present) (checks_left admits a fits alike))
 
 -- a tally has the levels of the accepted calls, and counts them
 tally_levels : {n : ℕ} {asked : List Asked} {answers : List Answer} {calls : List Call} {t u : Tally} → Tallied n asked t answers calls u →

@@ -5,7 +5,7 @@ use Rattle.morphology.specs.Levels.{moved}
 use Rattle.bench.specs.declared.fault.BenchFault.{BenchFault}
 use Rattle.bench.specs.Settings.{Setting, ground_of, Standing, Asked}
 use Rattle.bench.specs.Checks.{filter_checks}
-use Rattle.bench.specs.Steps.{operated}
+use Rattle.operators.specs.Operations.{operated}
 
 -- the present level, or why the call is refused
 abbrev pub Answer : Type 0
@@ -13,9 +13,9 @@ Answer = Result ℤ BenchFault
 
 -- A filter call in this setting: what it is asked and finds, what it answers, and what it leaves.
 pub record Filtered {V S : Type 0} (s : Setting V S) (a : Asked) (before : Standing S) (r : Answer) (after : Standing S) : Type 0 where
-  pub answer_is : r ≡ answered (first_fault (filter_checks s a before)) (moved a.call before.bench.levels).present
-  pub levels_are : after.bench.levels ≡ left_by r (moved a.call before.bench.levels) before.bench.levels
-  pub count_is : after.bench.count ≡ left_by r (before.bench.count + 1) before.bench.count
+  pub answer_is : r ≡ answered (first_fault (filter_checks s a before)) (moved a.call before.bench.book.levels).present
+  pub levels_are : after.bench.book.levels ≡ left_by r (moved a.call before.bench.book.levels) before.bench.book.levels
+  pub count_is : after.bench.book.count ≡ left_by r (before.bench.book.count + 1) before.bench.book.count
   pub tile_stays : after.bench.tile ≡ before.bench.tile
   pub picture_is : after.picture ≡
       left_by r (operated s.scale (ground_of s) a.call.operation a.call.size before.picture) before.picture

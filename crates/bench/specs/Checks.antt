@@ -75,4 +75,4 @@ handed_checks j map t count room =
 abbrev pub filter_checks : {V S : Type 0} → Setting V S → Asked → Standing S → List (Check BenchFault)
 filter_checks s a at =
     handed_checks s.judgement s.map at.bench.tile (length at.picture) a.room
-    ++ level_checks a.call at.bench.levels.present at.bench.count
+    ++ level_checks a.call at.bench.book.levels.present at.bench.book.count

@@ -38,8 +38,8 @@ pub record Lawful {V S : Type 0} (s : Setting V S) (f : List S) (asked : List As
   pub tally : Tally
   pub tallied : Tallied (pixels_of s.map) asked empty answers accepted tally
   pub tally_is : LawsOfTally accepted tally
-  pub levels_are : after.bench.levels ≡ tally.levels
-  pub count_is : after.bench.count ≡ tally.count
+  pub levels_are : after.bench.book.levels ≡ tally.levels
+  pub count_is : after.bench.book.count ≡ tally.count
   pub picture_is : after.picture ≡ run (dilation s.scale (ground_of s)) (erosion s.scale (ground_of s)) accepted f
   pub between : Between s.scale (ground_of s) f tally.levels after.picture
   pub of_kinds : OfKinds s.scale (ground_of s) f accepted after.picture
@@ -49,8 +49,8 @@ pub record Seated {V S : Type 0} (s : Setting V S) (f : List S) (b : Bench) : Ty
   pub width_is : b.tile.width ≡ s.map.width
   pub height_is : b.tile.height ≡ s.map.height
   pub joining_is : b.tile.joining ≡ s.map.joining
-  pub levels_start : b.levels ≡ at_zero
-  pub count_starts : b.count ≡ 0
+  pub levels_start : b.book.levels ≡ at_zero
+  pub count_starts : b.book.count ≡ 0
   -- the operators are the join and the meet over the symmetric neighbourhood, since each pixel is near itself
   pub near_itself : NearItself (ground_of s)
   pub operators : LawsOfOperators s.scale (ground_of s)

@@ -2,7 +2,6 @@ pub mod Faults
 pub mod Bounds
 pub mod Settings
 pub mod Checks
-pub mod Steps
 pub mod Calls
 pub mod Tallies
 pub mod Laws

@@ -1,41 +1,65 @@
 // The bench: the tile of its map, its levels, and how many calls it has accepted.
-ghost use Rattle.std.specs.Prelude.{◌≡◌, ◌≤◌, pos, negsuc, ◌≤ℤ◌};
+ghost use Rattle.std.specs.Prelude.{◌≡◌, ◌≤◌};
+ghost use Rattle.morphology.specs.Levels.{at_zero};
 
+use crate::book::Book;
+use maps::Map;
 use morphology::Levels;
 
 // Width, height and joining of the map with which a picture was seated.
-#[derive(Clone, Copy)]
+#[derive(Clone, Copy, PartialEq, Eq, Debug)]
 pub struct Tile {
     pub(crate) width: usize,
     pub(crate) height: usize,
     pub(crate) joining: u8,
 }
 
+impl Tile {
+    pub(crate) fn of<V>(map: &Map<V>) -> Tile
+        ensures width { result.width ≡ map.now.width }
+        ensures height { result.height ≡ map.now.height }
+        ensures joining { result.joining ≡ map.now.joining }
+    {
+        Tile {
+            width: map.width(),
+            height: map.height(),
+            joining: map.joining(),
+        }
+    }
+}
+
 // A seated picture's bench. Its levels stay within −64 and 64, and its book has at most 60,000 calls.
 #[derive(Drop)]
 pub struct Bench {
     pub(crate) tile: Tile,
-    pub(crate) levels: Levels,
-    pub(crate) count: u16,
-    ghost floor: { negsuc 63 ≤ℤ levels.lowest },
-    ghost low: { levels.lowest ≤ℤ levels.present },
-    ghost high: { levels.present ≤ℤ levels.highest },
-    ghost ceiling: { levels.highest ≤ℤ pos 64 },
-    ghost booked: { count ≤ 60000 },
+    pub(crate) book: Book,
+    ghost booked: { book.count ≤ 60000 },
 }
 
 impl Bench {
+    // A bench for this tile, its levels at 0 and its book empty.
+    pub(crate) fn new(tile: Tile) -> Bench
+        ensures tile { result.tile ≡ tile }
+        ensures levels { result.book.levels ≡ at_zero }
+        ensures count { result.book.count ≡ 0 }
+    {
+        Bench {
+            tile,
+            book: Book::empty(),
+        }
+    }
+
     // The present, the lowest and the highest level.
     pub fn levels(&self) -> Levels
-        ensures { result ≡ self.now.levels }
+        ensures { result ≡ self.now.book.levels }
     {
-        self.levels
+        self.book.levels
     }
 
     // How many calls were accepted.
     pub fn count(&self) -> u16
-        ensures { result ≡ self.now.count }
+        ensures { result ≡ self.now.book.count }
     {
-        self.count
+        self.book.count
     }
 }

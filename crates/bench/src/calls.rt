@@ -7,11 +7,11 @@ use crate::bench::Bench;
 use crate::checks::check_handed;
 use crate::fault::BenchFault;
 use crate::scratch::{Room, Scratch};
-use crate::step::operate;
 use criteria::Criterion;
 use maps::Map;
 use morphology::Operation;
 use neighbourhoods::{Marks, Queue, fill};
+use operators::operate;
 use scales::Scale;
 
 // Does the call or refuses it, and leaves the scratch as it comes.
@@ -36,12 +36,12 @@ fn attempt<C: Criterion, S: Scale>(
         spare: spare.len(),
     };
     check_handed(map, criterion, bench.tile, picture.len(), room)?;
-    let levels = bench.advance(operation, size)?;
-    fill(marks, 0);
+    let level = bench.book.advance(operation, size)?;
     operate(
         operation, size, map, criterion, picture, marks, queue, spare,
-    );
-    Ok(levels.present)
+    )
+    .unwrap();
+    Ok(level)
 }
 
 // Writes the lowest value into each element.
@@ -51,8 +51,8 @@ fn clear_spare<S: Scale>(spare: &mut [S])
     fill(spare, S::lowest());
 }
 
-// Does the call or refuses it, and leaves the scratch clear however it ends.
-fn filter<C: Criterion, S: Scale>(
+// Does the filter call of this operation or refuses it, and leaves the scratch clear however it ends.
+pub fn filter<C: Criterion, S: Scale>(
     operation: Operation,
     size: u8,
     bench: &mut Bench,

@@ -1,9 +1,9 @@
-// The checks of seat and of a filter call that come before those of the levels.
-ghost use Rattle.std.specs.Prelude.{◌≡◌, ◌<◌, ◌≤◌, [], ◌∷◌, None, OnOk};
+// The checks of seat and of a filter call.
+ghost use Rattle.std.specs.Prelude.{◌≡◌, ◌<◌, ◌≤◌, [], ◌∷◌, pos, negsuc, ◌≤ℤ◌, None, OnOk};
 ghost use Rattle.maps.specs.Checks.{first_fault, answered};
 ghost use Rattle.maps.specs.Admission.{admission_check, inadmissible};
 ghost use Rattle.maps.specs.Windows.{pixels_of};
-ghost use Rattle.bench.specs.Checks.{from_map, matches, seat_checks, room_checks, handed_checks};
+ghost use Rattle.bench.specs.Checks.{from_map, matches, seat_checks, room_checks, handed_checks, size_check, level_check, book_check};
 
 use crate::bench::Tile;
 use crate::fault::BenchFault;
@@ -15,10 +15,7 @@ use maps::{Map, check_admitted};
 fn fits<V>(map: &Map<V>, tile: Tile) -> bool
     ensures { result ≡ matches map.now tile }
 {
-    map.pixels() > 0
-        && map.width() == tile.width
-        && map.height() == tile.height
-        && map.joining() == tile.joining
+    map.pixels() > 0 && Tile::of(map) == tile
 }
 
 // Refuses a map with a value that is not admitted.
@@ -59,7 +56,6 @@ fn check_room<C: Criterion>(
     room: Room,
 ) -> Result<(), BenchFault>
     ensures answer { result ≡ answered (first_fault (room_checks (C.judgement criterion.now) map.now room)) tt }
-    ensures admitted { OnOk result (inadmissible (C.judgement criterion.now) map.now ≡ None) }
     ensures marks { OnOk result (pixels_of map.now ≤ room.marks) }
     ensures queue { OnOk result (pixels_of map.now ≤ room.queue) }
     ensures spare { OnOk result (pixels_of map.now ≤ room.spare) }
@@ -87,7 +83,6 @@ pub(crate) fn check_handed<C: Criterion>(
 ) -> Result<(), BenchFault>
     ensures answer { result ≡ answered
         (first_fault (handed_checks (C.judgement criterion.now) map.now tile count room)) tt }
-    ensures admitted { OnOk result (inadmissible (C.judgement criterion.now) map.now ≡ None) }
     ensures picture { OnOk result (count ≡ pixels_of map.now) }
     ensures marks { OnOk result (pixels_of map.now ≤ room.marks) }
     ensures queue { OnOk result (pixels_of map.now ≤ room.queue) }
@@ -100,4 +95,39 @@ pub(crate) fn check_handed<C: Criterion>(
         return Err(BenchFault::Misfit(2));
     }
     check_room(map, criterion, room)
+}
+
+// Refuses a size that is not 1 to 16.
+pub(crate) fn check_size(size: u8) -> Result<(), BenchFault>
+    ensures answer { result ≡ answered (first_fault (size_check size ∷ [])) tt }
+    ensures small { OnOk result (size ≤ 16) }
+{
+    if !(1..=16).contains(&size) {
+        return Err(BenchFault::Size(size));
+    }
+    Ok(())
+}
+
+// Refuses a level outside −64 to 64.
+pub(crate) fn check_level(level: i8) -> Result<(), BenchFault>
+    ensures answer { result ≡ answered (first_fault (level_check level ∷ [])) tt }
+    ensures low { OnOk result (negsuc 63 ≤ℤ level) }
+    ensures high { OnOk result (level ≤ℤ pos 64) }
+{
+    let far = level.unsigned_abs().saturating_sub(64);
+    if far > 0 {
+        return Err(BenchFault::Level(far));
+    }
+    Ok(())
+}
+
+// Refuses one more call after this many.
+pub(crate) fn check_book(count: u16) -> Result<(), BenchFault>
+    ensures answer { result ≡ answered (first_fault (book_check count ∷ [])) tt }
+    ensures room { OnOk result (count < 60000) }
+{
+    if count >= 60_000 {
+        return Err(BenchFault::Book);
+    }
+    Ok(())
 }

@@ -12,8 +12,8 @@ fn sum_gaps<S: Measured>(first: &[S], second: &[S]) -> u32
     ensures { result ≡ gap_sum S.excess first.now second.now }
 {
     let mut sum = 0;
-    for i in 0..first.len() {
-        sum += u32::from(first[i].gap(second[i]));
+    for (a, b) in first.iter().zip(second) {
+        sum += u32::from(a.gap(*b));
     }
     sum
 }
@@ -23,7 +23,7 @@ pub fn residue<S: Measured>(first: &[S], second: &[S]) -> Result<u32, BenchFault
     ensures { result ≡ answered (first_fault (residue_checks (length first.now) (length second.now)))
         (gap_sum S.excess first.now second.now) }
 {
-    if first.len() < 1 || first.len() > 4096 {
+    if !(1..=4096).contains(&first.len()) {
         return Err(BenchFault::Tile);
     }
     if first.len() != second.len() {

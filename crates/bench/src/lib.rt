@@ -2,18 +2,17 @@
 #![tactic(auto)]
 
 mod bench;
+mod book;
 mod calls;
 mod checks;
 mod fault;
 mod gaps;
-mod levels;
 mod note;
 mod scratch;
 mod seating;
-mod step;
 
 pub use bench::Bench;
-pub use calls::{close, dilate, erode, open};
+pub use calls::{close, dilate, erode, filter, open};
 pub use fault::BenchFault;
 pub use gaps::residue;
 pub use note::{Note, finish};

@@ -1,47 +1,40 @@
 // The note of a finished bench.
-ghost use Rattle.std.specs.Prelude.{◌≡◌, ◌<◌, ◌≤◌, pos, negsuc, ◌≤ℤ◌};
+ghost use Rattle.std.specs.Prelude.{◌≡◌, ◌<◌, ◌≤◌};
 ghost use Rattle.bench.specs.Notes.{filed, raised};
 
 use crate::bench::Bench;
-use morphology::Levels;
+use crate::book::Book;
 
 // What a finished bench leaves: it is filed or struck, and never let go.
 pub struct Note {
-    pub(crate) levels: Levels,
-    pub(crate) count: u16,
-    ghost floor: { negsuc 63 ≤ℤ levels.lowest },
-    ghost low: { levels.lowest ≤ℤ levels.present },
-    ghost high: { levels.present ≤ℤ levels.highest },
-    ghost ceiling: { levels.highest ≤ℤ pos 64 },
+    pub(crate) book: Book,
 }
 
 // Nothing may let a note of a bench go: its book would have to have more calls than a book holds. Only a call that takes the note
 // apart ends it.
 impl Drop for Note {
     fn drop(self)
-        requires { 60000 < self.count }
+        requires { 60000 < self.book.count }
     {
-        let Note {
-            levels: _,
-            count: _,
-        } = self;
+        let Note { book: _ } = self;
     }
 }
 
 // A level as a byte.
 fn level_byte(level: i8) -> u8
-    requires { (level ≤ℤ pos 64) × (negsuc 63 ≤ℤ level) }
     ensures { result ≡ raised level }
 {
-    (i16::from(level) + 64) as u8
+    (i16::from(level) + 64).unsigned_abs() as u8
 }
 
 impl Note {
     // The note's eight bytes.
     pub fn file(self) -> [u8; 8]
-        ensures { result ≡ filed self.levels self.count }
+        ensures { result ≡ filed self.book.levels self.book.count }
     {
-        let Note { levels, count } = self;
+        let Note {
+            book: Book { levels, count },
+        } = self;
         let [low, high] = count.to_le_bytes();
         [
             b'N',
@@ -57,24 +50,18 @@ impl Note {
 
     // The accepted count alone.
     pub fn strike(self) -> u16
-        ensures { result ≡ self.count }
+        ensures { result ≡ self.book.count }
     {
-        let Note {
-            count: accepted,
-            levels: _levels,
-        } = self;
-        accepted
+        let Note { book } = self;
+        book.count
     }
 }
 
 // Ends the bench. Its note has to be filed or struck.
 pub fn finish(bench: Bench) -> Note
-    ensures levels { result.levels ≡ bench.levels }
-    ensures book { result.count ≡ bench.count }
-    ensures within { result.count ≤ 60000 }
+    ensures levels { result.book.levels ≡ bench.book.levels }
+    ensures book { result.book.count ≡ bench.book.count }
+    ensures within { result.book.count ≤ 60000 }
 {
-    Note {
-        levels: bench.levels,
-        count: bench.count,
-    }
+    Note { book: bench.book }
 }

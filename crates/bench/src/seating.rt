@@ -24,10 +24,5 @@ pub fn seat<C: Criterion, S: Scale>(
     ensures seated { IfOk result (Seated (setting S.grading (C.judgement criterion.now) map.now) picture.now) }
 {
     check_seat(map, criterion, picture.len())?;
-    let tile = Tile {
-        width: map.width(),
-        height: map.height(),
-        joining: map.joining(),
-    };
-    Ok(Bench::new(tile))
+    Ok(Bench::new(Tile::of(map)))
 }

@@ -51,7 +51,7 @@ pub fn lower<C: Criterion, S: Scale>(
 
 #[cfg(test)]
 mod tests {
-    use bench::{Bench, BenchFault, Scratch};
+    use bench::{Bench, BenchFault, Note};
     use criteria::{Step, Tolerance};
     use maps::Map;
     use morphology::Operation;
@@ -60,48 +60,46 @@ mod tests {
 
     static WORKED: [u8; 5] = [0, 10, 20, 30, 100];
 
-    // One call, with scratch of eight marks and nine queue entries.
-    fn call<S: Scale>(
-        bench: &mut Bench,
-        map: &Map<u8>,
-        step: &Step,
-        picture: &mut [S],
-        spare: &mut [S],
-        operation: Operation,
-        size: u8,
-    ) -> Result<i8, BenchFault> {
-        let mut marks = [7; 8];
-        let mut queue = [7; 9];
-        let scratch = Scratch {
-            marks: &mut marks,
-            queue: &mut queue,
-            spare,
-        };
-        match operation {
-            Operation::Dilate => bench::dilate(bench, map, step, picture, scratch, size),
-            Operation::Erode => bench::erode(bench, map, step, picture, scratch, size),
-            Operation::Open => bench::open(bench, map, step, picture, scratch, size),
-            Operation::Close => bench::close(bench, map, step, picture, scratch, size),
-        }
+    // A picture on its bench, with the map, the criterion and the spare picture of its calls.
+    #[derive(Drop)]
+    struct Seat<'a, S> {
+        bench: Bench,
+        map: &'a Map<'a, u8>,
+        step: &'a Step,
+        picture: &'a mut [S],
+        spare: &'a mut [S],
     }
 
-    // The same call so many times. Were all accepted?
-    fn repeated(
-        bench: &mut Bench,
-        map: &Map<u8>,
-        step: &Step,
-        picture: &mut [u8],
-        spare: &mut [u8],
-        operation: Operation,
-        size: u8,
-        times: u32,
-    ) -> bool {
-        let mut all = true;
-        for _ in 0..times {
-            let answer = call(bench, map, step, picture, spare, operation, size);
-            all = all && answer.is_ok();
+    impl<S: Scale> Seat<'_, S> {
+        // One call, with scratch of eight marks and nine queue entries.
+        fn call(&mut self, operation: Operation, size: u8) -> Result<i8, BenchFault> {
+            let mut marks = [7; 8];
+            let mut queue = [7; 9];
+            bench::filter(
+                operation,
+                size,
+                &mut self.bench,
+                self.map,
+                self.step,
+                self.picture,
+                &mut marks,
+                &mut queue,
+                self.spare,
+            )
         }
-        all
+
+        // The same call so many times. Were all accepted?
+        fn repeat(&mut self, operation: Operation, size: u8, times: u32) -> bool {
+            let mut all = true;
+            for _ in 0..times {
+                all &= self.call(operation, size).is_ok();
+            }
+            all
+        }
+
+        fn finish(self) -> Note {
+            bench::finish(self.bench)
+        }
     }
 
     // The worked job: dilate 1, erode 2, open 0 (refused), close 1; and its note.
@@ -110,51 +108,24 @@ mod tests {
         let step = Step::new(Tolerance::Step(10))?;
         let mut map = Map::empty();
         map.make(5, 1, 4, &WORKED)?;
-        let mut picture = [9u8, 2, 2, 2, 4];
+        let taken = [9u8, 2, 2, 2, 4];
+        let mut picture = taken;
         let mut spare = [255u8; 6];
-        let taken = picture;
-        let mut seated = bench::seat(&map, &step, &picture)?;
-        let dilated = call(
-            &mut seated,
-            &map,
-            &step,
-            &mut picture,
-            &mut spare,
-            Operation::Dilate,
-            1,
-        );
-        assert!(rt; dilated == Ok(1) && picture == [9, 9, 9, 2, 4]);
-        let eroded = call(
-            &mut seated,
-            &map,
-            &step,
-            &mut picture,
-            &mut spare,
-            Operation::Erode,
-            2,
-        );
-        let opened = call(
-            &mut seated,
-            &map,
-            &step,
-            &mut picture,
-            &mut spare,
-            Operation::Open,
-            0,
-        );
-        let closed = call(
-            &mut seated,
-            &map,
-            &step,
-            &mut picture,
-            &mut spare,
-            Operation::Close,
-            1,
-        );
-        assert!(rt; eroded == Ok(-1) && opened == Err(BenchFault::Size(0)) && closed == Ok(-1));
+        let mut seat = Seat {
+            bench: bench::seat(&map, &step, &picture)?,
+            map: &map,
+            step: &step,
+            picture: &mut picture,
+            spare: &mut spare,
+        };
+        assert!(rt; seat.call(Operation::Dilate, 1) == Ok(1));
+        assert!(rt; seat.picture[..] == [9, 9, 9, 2, 4]);
+        assert!(rt; seat.call(Operation::Erode, 2) == Ok(-1));
+        assert!(rt; seat.call(Operation::Open, 0) == Err(BenchFault::Size(0)));
+        assert!(rt; seat.call(Operation::Close, 1) == Ok(-1));
+        assert!(rt; seat.finish().file() == [78, 63, 63, 65, 3, 0, 0, 0]);
         assert!(rt; picture == [2, 2, 2, 2, 4] && spare == [0; 6]);
         assert!(rt; bench::residue(&taken, &picture) == Ok(7));
-        assert!(rt; bench::finish(seated).file() == [78, 63, 63, 65, 3, 0, 0, 0]);
         Ok(())
     }
 
@@ -164,22 +135,20 @@ mod tests {
         let step = Step::new(Tolerance::Step(10))?;
         let mut map = Map::empty();
         map.make(5, 1, 4, &WORKED)?;
-        let mut picture = [5i16, -300, 5, 5, -7];
+        let taken = [5i16, -300, 5, 5, -7];
+        let mut picture = taken;
         let mut spare = [0i16; 5];
-        let taken = picture;
-        let mut seated = bench::seat(&map, &step, &picture)?;
-        let closed = call(
-            &mut seated,
-            &map,
-            &step,
-            &mut picture,
-            &mut spare,
-            Operation::Close,
-            1,
-        );
-        assert!(rt; closed == Ok(0) && picture == [5, 5, 5, 5, -7]);
-        assert!(rt; spare == [-32768; 5] && bench::residue(&picture, &taken) == Ok(305));
-        assert!(rt; bench::finish(seated).strike() == 1);
+        let mut seat = Seat {
+            bench: bench::seat(&map, &step, &picture)?,
+            map: &map,
+            step: &step,
+            picture: &mut picture,
+            spare: &mut spare,
+        };
+        assert!(rt; seat.call(Operation::Close, 1) == Ok(0));
+        assert!(rt; seat.finish().strike() == 1);
+        assert!(rt; picture == [5, 5, 5, 5, -7] && spare == [-32768; 5]);
+        assert!(rt; bench::residue(&picture, &taken) == Ok(305));
         Ok(())
     }
 
@@ -189,22 +158,20 @@ mod tests {
         let step = Step::new(Tolerance::Step(10))?;
         let mut map = Map::empty();
         map.make(5, 1, 4, &WORKED)?;
-        let mut picture = [1u32, 2, 4, 8, 16];
+        let taken = [1u32, 2, 4, 8, 16];
+        let mut picture = taken;
         let mut spare = [0u32; 5];
-        let taken = picture;
-        let mut seated = bench::seat(&map, &step, &picture)?;
-        let dilated = call(
-            &mut seated,
-            &map,
-            &step,
-            &mut picture,
-            &mut spare,
-            Operation::Dilate,
-            1,
-        );
-        assert!(rt; dilated == Ok(1) && picture == [7, 15, 15, 14, 16]);
+        let mut seat = Seat {
+            bench: bench::seat(&map, &step, &picture)?,
+            map: &map,
+            step: &step,
+            picture: &mut picture,
+            spare: &mut spare,
+        };
+        assert!(rt; seat.call(Operation::Dilate, 1) == Ok(1));
+        assert!(rt; seat.finish().strike() == 1);
+        assert!(rt; picture == [7, 15, 15, 14, 16]);
         assert!(rt; bench::residue(&picture, &taken) == Ok(10));
-        assert!(rt; bench::finish(seated).strike() == 1);
         Ok(())
     }
 
@@ -216,57 +183,19 @@ mod tests {
         map.make(1, 1, 8, &[0])?;
         let mut picture = [1u8];
         let mut spare = [0u8];
-        let mut seated = bench::seat(&map, &step, &picture)?;
-        let up = repeated(
-            &mut seated,
-            &map,
-            &step,
-            &mut picture,
-            &mut spare,
-            Operation::Dilate,
-            15,
-            4,
-        );
-        assert!(rt; up);
-        let too_far = call(
-            &mut seated,
-            &map,
-            &step,
-            &mut picture,
-            &mut spare,
-            Operation::Dilate,
-            5,
-        );
-        let over = call(
-            &mut seated,
-            &map,
-            &step,
-            &mut picture,
-            &mut spare,
-            Operation::Close,
-            5,
-        );
-        assert!(rt; too_far == Err(BenchFault::Level(1)) && over == Err(BenchFault::Level(1)));
-        let opened = call(
-            &mut seated,
-            &map,
-            &step,
-            &mut picture,
-            &mut spare,
-            Operation::Open,
-            16,
-        );
-        let dilated = call(
-            &mut seated,
-            &map,
-            &step,
-            &mut picture,
-            &mut spare,
-            Operation::Dilate,
-            4,
-        );
-        assert!(rt; opened == Ok(60) && dilated == Ok(64));
-        assert!(rt; bench::finish(seated).file() == [78, 128, 64, 128, 6, 0, 0, 0]);
+        let mut seat = Seat {
+            bench: bench::seat(&map, &step, &picture)?,
+            map: &map,
+            step: &step,
+            picture: &mut picture,
+            spare: &mut spare,
+        };
+        assert!(rt; seat.repeat(Operation::Dilate, 15, 4));
+        assert!(rt; seat.call(Operation::Dilate, 5) == Err(BenchFault::Level(1)));
+        assert!(rt; seat.call(Operation::Close, 5) == Err(BenchFault::Level(1)));
+        assert!(rt; seat.call(Operation::Open, 16) == Ok(60));
+        assert!(rt; seat.call(Operation::Dilate, 4) == Ok(64));
+        assert!(rt; seat.finish().file() == [78, 128, 64, 128, 6, 0, 0, 0]);
         Ok(())
     }
 
@@ -278,38 +207,17 @@ mod tests {
         map.make(1, 1, 4, &[0])?;
         let mut picture = [1u8];
         let mut spare = [0u8];
-        let mut seated = bench::seat(&map, &step, &picture)?;
-        let written = repeated(
-            &mut seated,
-            &map,
-            &step,
-            &mut picture,
-            &mut spare,
-            Operation::Open,
-            1,
-            60000,
-        );
-        assert!(rt; written);
-        let full = call(
-            &mut seated,
-            &map,
-            &step,
-            &mut picture,
-            &mut spare,
-            Operation::Open,
-            1,
-        );
-        let sized = call(
-            &mut seated,
-            &map,
-            &step,
-            &mut picture,
-            &mut spare,
-            Operation::Open,
-            17,
-        );
-        assert!(rt; full == Err(BenchFault::Book) && sized == Err(BenchFault::Size(17)));
-        assert!(rt; bench::finish(seated).strike() == 60000);
+        let mut seat = Seat {
+            bench: bench::seat(&map, &step, &picture)?,
+            map: &map,
+            step: &step,
+            picture: &mut picture,
+            spare: &mut spare,
+        };
+        assert!(rt; seat.repeat(Operation::Open, 1, 60000));
+        assert!(rt; seat.call(Operation::Open, 1) == Err(BenchFault::Book));
+        assert!(rt; seat.call(Operation::Open, 17) == Err(BenchFault::Size(17)));
+        assert!(rt; seat.finish().strike() == 60000);
         Ok(())
     }
 }

@@ -32,26 +32,26 @@ module _ (s : Setting ℕ ℕ) where
 
   -- the level that a call leaves is that of its line
   level_left : {a : Asked} {r : Answer} {before after : Standing ℕ} → Filtered s a before r after →
-      level_after before.bench.levels.present r ≡ after.bench.levels.present
+      level_after before.bench.book.levels.present r ≡ after.bench.book.levels.present
   level_left {a} {r} {before} {after} F = at r F.answer_is F.levels_are
     where
-      at : (r : Answer) → r ≡ answered (first_fault (filter_checks s a before)) (moved a.call before.bench.levels).present →
-          after.bench.levels ≡ left_by r (moved a.call before.bench.levels) before.bench.levels →
-          level_after before.bench.levels.present r ≡ after.bench.levels.present
-      at (Ok z) e l = the_value (first_fault (filter_checks s a before)) (moved a.call before.bench.levels).present e ∙ sym (ap (λ (l : Levels). l.present) l)
+      at : (r : Answer) → r ≡ answered (first_fault (filter_checks s a before)) (moved a.call before.bench.book.levels).present →
+          after.bench.book.levels ≡ left_by r (moved a.call before.bench.book.levels) before.bench.book.levels →
+          level_after before.bench.book.levels.present r ≡ after.bench.book.levels.present
+      at (Ok z) e l = the_value (first_fault (filter_checks s a before)) (moved a.call before.bench.book.levels).present e ∙ sym (ap (λ (l : Levels). l.present) l)
       at (Err f) e l = sym (ap (λ (l : Levels). l.present) l)
 
   -- and its line comes after the lines before
   lines_more : (calls : List Call) {rs : List Answer} {c : Call} {r : Answer} {before mid after : Standing ℕ} →
       Run s (map asked calls) rs before mid → Filtered s (asked c) mid r after →
-      call_lines before.bench.levels.present (calls ++ (c ∷ [])) (rs ++ (r ∷ []))
-      ≡ call_lines before.bench.levels.present calls rs ++ call_line c (number_of_answer r) after.bench.levels.present
+      call_lines before.bench.book.levels.present (calls ++ (c ∷ [])) (rs ++ (r ∷ []))
+      ≡ call_lines before.bench.book.levels.present calls rs ++ call_line c (number_of_answer r) after.bench.book.levels.present
   lines_more [] {c = c} {r = r} no_call F =
       append-nil _ ∙ ap (call_line c (number_of_answer r)) (level_left F)
   lines_more (b ∷ calls) {c = c} {r = r} {before = before} {after = after} (one_more {r = q} {answers = rs} G R) F =
       let z = level_left G in
-      let line = call_line b (number_of_answer q) (level_after before.bench.levels.present q) in
-      let later = ap (λ y. call_lines y (calls ++ (c ∷ [])) (rs ++ (r ∷ []))) z ∙ lines_more calls R F ∙ ap (λ y. call_lines y calls rs ++ call_line c (number_of_answer r) after.bench.levels.present) (sym z) in
+      let line = call_line b (number_of_answer q) (level_after before.bench.book.levels.present q) in
+      let later = ap (λ y. call_lines y (calls ++ (c ∷ [])) (rs ++ (r ∷ []))) z ∙ lines_more calls R F ∙ ap (λ y. call_lines y calls rs ++ call_line c (number_of_answer r) after.bench.book.levels.present) (sym z) in
       ap (λ t. line ++ t) later ∙ sym (append_assoc line _ _)
 
 pub calls_more : (calls : List Call) (c : Call) → call_records (calls ++ (c ∷ [])) ≡ call_records calls ++ (call_record c ∷ [])
@@ -69,8 +69,8 @@ module _ (s : Setting ℕ ℕ) where
   pub performed_more : {front : List (List ℕ)} {bs : List ℕ} {before mid after : Standing ℕ} {old new newer : List ℕ} →
       Performed s front before old mid new → Called s bs mid new after newer → Performed s (front ++ (bs ∷ [])) before old after newer
   performed_more {front} {bs} {before} {mid} {after} {old} {new} {newer} p q =
-      let z = before.bench.levels.present in
-      let one = call_line q.call (number_of_answer q.answer) after.bench.levels.present in
+      let z = before.bench.book.levels.present in
+      let one = call_line q.call (number_of_answer q.answer) after.bench.book.levels.present in
       record {
         calls = p.calls ++ (q.call ∷ []);
         answers = p.answers ++ (q.answer ∷ []);

@@ -58,7 +58,7 @@ module _ (records : List (List ℕ)) (n left : ℕ) (h : Head) (values grey : Li
       made_of = record { on = on; shows = shows; bench = b; seated = seated; ran = P.ran; lawful = seated.lawful _ _ _ P.ran }
 
       lines_of : new ≡ call_lines (pos 0) P.calls P.answers
-      lines_of = P.lines ∙ ap (λ t. t ++ call_lines b.levels.present P.calls P.answers) none
+      lines_of = P.lines ∙ ap (λ t. t ++ call_lines b.book.levels.present P.calls P.answers) none
           ∙ ap (λ (l : Levels). call_lines l.present P.calls P.answers) seated.levels_start
 
       whole_of : (rest : List (List ℕ)) → drop n records ≡ front ++ rest → records ≡ records_of (job_of P.calls) ++ rest
@@ -120,8 +120,8 @@ left_off ending records left h grey picture text (Memory e) p = tt
 
 -- with its ending, the text of a job that is done is what it prints
 pub printed : (ending : Ending) (records : List (List ℕ)) (left : ℕ) (h : Head) (grey : List ℕ) (b : Bench) (picture one two : List ℕ) →
-    Filters records left h grey b picture one → two ≡ one ++ ending h grey picture b.levels b.count → Prints ending records left two
+    Filters records left h grey b picture one → two ≡ one ++ ending h grey picture b.book.levels b.book.count → Prints ending records left two
 printed ending records left h grey b picture one two F e =
-    let last = ap (λ (k : Head). ending k grey picture b.levels b.count) (sym F.head_is) ∙ ap (λ g. ending F.job.head g picture b.levels b.count) (sym F.grey_is) in
+    let last = ap (λ (k : Head). ending k grey picture b.book.levels b.book.count) (sym F.head_is) ∙ ap (λ g. ending F.job.head g picture b.book.levels b.book.count) (sym F.grey_is) in
     whole F.sound F.records_are F.none_left F.made
     (e ∙ ap (λ t. one ++ t) last ∙ ap (λ t. t ++ closing_text ending F.job (standing b picture)) F.lines)

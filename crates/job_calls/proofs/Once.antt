@@ -52,8 +52,8 @@ tallied_once (refuses {f = f} {answers = xs} e more) (refuses {f = f'} e' more')
 record MadeOnce (a a' : List Answer) (s s' : Standing ℕ) : Type 0 where
   answers_same : a ≡ a'
   picture_same : s.picture ≡ s'.picture
-  levels_same : s.bench.levels ≡ s'.bench.levels
-  count_same : s.bench.count ≡ s'.bench.count
+  levels_same : s.bench.book.levels ≡ s'.bench.book.levels
+  count_same : s.bench.book.count ≡ s'.bench.book.count
 
 made_once : (j : Job) {a a' : List Answer} {s s' : Standing ℕ} → Made j a s → Made j a' s' → MadeOnce a a' s s'
 made_once j {a} {a'} {s} {s'} M N =
@@ -80,9 +80,9 @@ lines_once j O = ap (call_lines (pos 0) j.calls) O.answers_same
 module _ (ending : Ending) where
   end_once : (j : Job) {a a' : List Answer} {s s' : Standing ℕ} → MadeOnce a a' s s' → closing_text ending j s ≡ closing_text ending j s'
   end_once j {s = s} {s' = s'} O =
-      ap (λ p. ending j.head j.grey p s.bench.levels s.bench.count) O.picture_same
-      ∙ ap (λ l. ending j.head j.grey s'.picture l s.bench.count) O.levels_same
-      ∙ ap (ending j.head j.grey s'.picture s'.bench.levels) O.count_same
+      ap (λ p. ending j.head j.grey p s.bench.book.levels s.bench.book.count) O.picture_same
+      ∙ ap (λ l. ending j.head j.grey s'.picture l s.bench.book.count) O.levels_same
+      ∙ ap (ending j.head j.grey s'.picture s'.bench.book.levels) O.count_same
 
   -- the text of each outcome
   data Tells : Outcome → List ℕ → Type 0 where

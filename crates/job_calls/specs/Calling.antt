@@ -22,7 +22,7 @@ pub record Called (s : Setting ℕ ℕ) (bs : List ℕ) (before : Standing ℕ) 
   pub answer : Answer
   pub is : bs ≡ call_record call
   pub filtered : Filtered s (asked call) before answer after
-  pub line : new ≡ old ++ call_line call (number_of_answer answer) after.bench.levels.present
+  pub line : new ≡ old ++ call_line call (number_of_answer answer) after.bench.book.levels.present
 
 -- What came of record n: a call, or the fault of a record that is no sound C, which changes nothing.
 abbrev pub Tried : Setting ℕ ℕ → ℕ → ℕ → List ℕ → Standing ℕ → List ℕ → Result (Unit {0}) Stop → Standing ℕ → List ℕ → Type 0
@@ -36,7 +36,7 @@ pub record Performed (s : Setting ℕ ℕ) (records : List (List ℕ)) (before :
   pub answers : List Answer
   pub are : records ≡ call_records calls
   pub ran : Run s (map asked calls) answers before after
-  pub lines : new ≡ old ++ call_lines before.bench.levels.present calls answers
+  pub lines : new ≡ old ++ call_lines before.bench.book.levels.present calls answers
 
 -- The first of the records are such, and what follows them is at fault.
 pub record Broken (s : Setting ℕ ℕ) (n next : ℕ) (records : List (List ℕ)) (left : ℕ) (before : Standing ℕ) (old : List ℕ) (f : ReaderFault) (after : Standing ℕ) (new : List ℕ) : Type 0 where

@@ -21,7 +21,7 @@ Ending = Head → List ℕ → List ℕ → Levels → ℕ → List ℕ
 
 -- the same of a job, and of the bench and the picture that its calls left
 abbrev pub closing_text : Ending → Job → Standing ℕ → List ℕ
-closing_text ending j after = ending j.head j.grey after.picture after.bench.levels after.bench.count
+closing_text ending j after = ending j.head j.grey after.picture after.bench.book.levels after.bench.book.count
 
 -- What these records print, with so many bytes left over after them.
 pub data Prints (ending : Ending) (records : List (List ℕ)) (left : ℕ) (text : List ℕ) : Type 0 where

@@ -12,7 +12,7 @@ ghost use Rattle.job_calls.specs.Calling.{Tried, Went};
 
 use crate::lines::push_call;
 use crate::stop::Stop;
-use bench::{Bench, BenchFault, Scratch};
+use bench::{Bench, BenchFault};
 use criteria::Criterion;
 use maps::Map;
 use morphology::Operation;
@@ -51,17 +51,9 @@ fn filter<C: Criterion<Value = u8>>(
     let mut marks = [0u8; 4096];
     let mut queue = [0u32; 4096];
     let mut spare = [0u8; 4096];
-    let scratch = Scratch {
-        marks: &mut marks,
-        queue: &mut queue,
-        spare: &mut spare,
-    };
-    match operation {
-        Operation::Dilate => bench::dilate(bench, map, criterion, picture, scratch, size),
-        Operation::Erode => bench::erode(bench, map, criterion, picture, scratch, size),
-        Operation::Open => bench::open(bench, map, criterion, picture, scratch, size),
-        Operation::Close => bench::close(bench, map, criterion, picture, scratch, size),
-    }
+    bench::filter(
+        operation, size, bench, map, criterion, picture, &mut marks, &mut queue, &mut spare,
+    )
 }
 
 // 0 for an accepted call, and else the number of its fault.

@@ -70,7 +70,7 @@ fn push_ending(
     requires rows { head.width * head.height ≤ length filtered.now }
     requires counts { (length taken.now ≡ length filtered.now) × (0 < length taken.now) × (length taken.now ≤ 4096) }
     ensures { Appends (string_bytes text.old)
-        (ending_of view head taken.now filtered.now bench.levels bench.count) (string_bytes text.new) result }
+        (ending_of view head taken.now filtered.now bench.book.levels bench.book.count) (string_bytes text.new) result }
 {
     let levels = bench.levels();
     let count = bench::finish(bench).strike();

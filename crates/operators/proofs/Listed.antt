@@ -1,12 +1,12 @@
 -- What the loops over listed pixels keep. Assumes nothing.
-use Rattle.std.proofs.Common.{◌≡◌, ℕ, ◌+◌, ◌<◌, ◌≤◌, ◌≢◌, ◌⊎◌, List, length, get_or, set, sym, refl, subst, inl, inr, arith}
+use Rattle.std.proofs.Common.{◌≡◌, ℕ, ◌+◌, ◌<◌, ◌≤◌, ◌≢◌, ◌⊎◌, List, length, set, sym, refl, subst, inl, inr, arith}
 use Rattle.std.proofs.lemmas.Bool.{cases_eq}
 use Rattle.scales.specs.Scales.{Grading, Lattice}
 use Rattle.morphology.specs.Bounds.{JoinOf}
 use Rattle.morphology.specs.Pictures.{At}
 use Rattle.morphology.proofs.Bounds.{join_same, join_both}
 use Rattle.morphology.proofs.Pictures.{at_bound, at_one}
-use Rattle.morphology.proofs.Values.{at_getD, at_set_same, at_set_other}
+use Rattle.morphology.proofs.Values.{at_set_same, at_set_other}
 use Rattle.morphology.proofs.Sweep.{join_alone}
 use Rattle.neighbourhoods.specs.Listings.{In}
 use Rattle.operators.specs.Steps.{Once, OwnOrOver, Put, inside, outside, AllPut}
@@ -98,16 +98,13 @@ module _ {V : Type 0} {scale : Grading V} {pixels : List ℕ} {v : V} {old : Lis
   pub put_none : AllPut scale (Early pixels 0) v old old
   put_none x b a = outside none_early a
 
-  pub put_more : {k p : ℕ} {new : List V} → Once pixels → At pixels k p → p < length new → AllPut scale (Early pixels k) v old new →
-      AllPut scale (Early pixels (k + 1)) v old (set new p (scale.join (get_or new p v) v))
-  put_more {k} {p} {new} once at-k within all x b a = elim (cases_eq x p) [
+  pub put_more : {k p : ℕ} {new : List V} {u : V} → Once pixels → At pixels k p → At new p u → AllPut scale (Early pixels k) v old new →
+      AllPut scale (Early pixels (k + 1)) v old (set new p (scale.join u v))
+  put_more {k} {p} {new} {u} once at-k at_p all x b a = elim (cases_eq x p) [
     | inl same ↦ subst (λ q. Put scale (Early pixels (k + 1)) v old q b) (sym same) (written (subst (λ q. At new' q b) same a))
     | inr other ↦ kept other (all x b (at_set_other new p x (scale.join u v) other a))
   ]
     where
-      u : V
-      u = get_or new p v
-
       new' : List V
       new' = set new p (scale.join u v)
 
@@ -117,7 +114,7 @@ module _ {V : Type 0} {scale : Grading V} {pixels : List ℕ} {v : V} {old : Lis
 
       written : {w : V} → At new' p w → Put scale (Early pixels (k + 1)) v old p w
       written a' =
-          let joined = inside (last at-k) (untouched (all p u (at_getD new p v within))) in
+          let joined = inside (last at-k) (untouched (all p u at_p)) in
           subst (Put scale (Early pixels (k + 1)) v old p) (sym (at_set_same new p (scale.join u v) a')) joined
 
       kept : {y : ℕ} {w : V} → y ≢ p → Put scale (Early pixels k) v old y w → Put scale (Early pixels (k + 1)) v old y w

@@ -7,7 +7,7 @@ ghost use Rattle.operators.specs.Operations.{fit_checks};
 use maps::Map;
 
 // What does not fit the map.
-#[derive(Clone, Copy)]
+#[derive(Clone, Copy, PartialEq, Eq, Debug)]
 pub enum Unfit {
     // its count is not the map's
     Picture,

@@ -3,6 +3,7 @@
 
 mod fit;
 mod operations;
+mod operator;
 mod step;
 
 pub use fit::Unfit;

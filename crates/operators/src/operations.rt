@@ -10,6 +10,7 @@ ghost use Rattle.operators.specs.Operations.{operated, fit_checks, KeptIfRefused
 ghost use Rattle.operators.specs.Steps.{towards, Ready};
 
 use crate::fit::{Unfit, check_fit};
+use crate::operator::{Dilation, Erosion, Operator};
 use crate::step::step;
 use criteria::Criterion;
 use maps::Map;
@@ -18,8 +19,8 @@ use neighbourhoods::clear_all;
 use scales::Scale;
 
 // That many dilations, or erosions.
-fn repeat<C: Criterion, S: Scale>(
-    up: bool,
+fn repeat<O: Operator, C: Criterion, S: Scale>(
+    operator: O,
     size: u8,
     map: &Map<C::Value>,
     criterion: &C,
@@ -30,11 +31,11 @@ fn repeat<C: Criterion, S: Scale>(
 )
     requires { Ready (pixels_of map.now) marks.old (length queue.old) (length picture.old) (length spare.old) }
     ensures picture { picture.new ≡
-        times size (dilation (towards up S.grading) (ground (C.judgement criterion.now) map.now)) picture.old }
+        times size (dilation (towards O.up S.grading) (ground (C.judgement criterion.now) map.now)) picture.old }
     ensures marks { marks.new ≡ marks.old }
 {
     for done in 0..size {
-        step(up, map, criterion, picture, marks, queue, spare);
+        step(operator, map, criterion, picture, marks, queue, spare);
     }
 }
 
@@ -55,15 +56,15 @@ fn operate_within<C: Criterion, S: Scale>(
     ensures marks { marks.new ≡ marks.old }
 {
     match operation {
-        Operation::Dilate => repeat(true, size, map, criterion, picture, marks, queue, spare),
-        Operation::Erode => repeat(false, size, map, criterion, picture, marks, queue, spare),
+        Operation::Dilate => repeat(Dilation, size, map, criterion, picture, marks, queue, spare),
+        Operation::Erode => repeat(Erosion, size, map, criterion, picture, marks, queue, spare),
         Operation::Open => {
-            repeat(false, size, map, criterion, picture, marks, queue, spare);
-            repeat(true, size, map, criterion, picture, marks, queue, spare);
+            repeat(Erosion, size, map, criterion, picture, marks, queue, spare);
+            repeat(Dilation, size, map, criterion, picture, marks, queue, spare);
         }
         Operation::Close => {
-            repeat(true, size, map, criterion, picture, marks, queue, spare);
-            repeat(false, size, map, criterion, picture, marks, queue, spare);
+            repeat(Dilation, size, map, criterion, picture, marks, queue, spare);
+            repeat(Erosion, size, map, criterion, picture, marks, queue, spare);
         }
     }
 }

@@ -1,6 +1,6 @@
 // Calls near the highest level.
 use crate::failure::Failure;
-use bench::{Bench, BenchFault, Scratch};
+use bench::{Bench, BenchFault};
 use criteria::{MapFault, Step, Tolerance};
 use maps::Map;
 use morphology::Operation;
@@ -17,17 +17,17 @@ fn call(
     let mut marks = [0];
     let mut queue = [0];
     let mut spare = [0u8];
-    let scratch = Scratch {
-        marks: &mut marks,
-        queue: &mut queue,
-        spare: &mut spare,
-    };
-    match operation {
-        Operation::Dilate => bench::dilate(bench, map, step, &mut picture, scratch, size),
-        Operation::Erode => bench::erode(bench, map, step, &mut picture, scratch, size),
-        Operation::Open => bench::open(bench, map, step, &mut picture, scratch, size),
-        Operation::Close => bench::close(bench, map, step, &mut picture, scratch, size),
-    }
+    bench::filter(
+        operation,
+        size,
+        bench,
+        map,
+        step,
+        &mut picture,
+        &mut marks,
+        &mut queue,
+        &mut spare,
+    )
 }
 
 fn print_answer(

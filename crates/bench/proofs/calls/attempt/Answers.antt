@@ -1,8 +1,7 @@
-use Rattle.std.proofs.Common.{◌≡◌, length, Ok, refl, ap, ◌∙◌, w8, to_z, of_z, rules}
+use Rattle.std.proofs.Common.{length, Ok, refl, ap, ◌∙◌, w8, rules}
 use Rattle.std.proofs.lemmas.Result.{err_from_is_err_and}
 use Rattle.std.proofs.lemmas.Int.{to_z-of_z}
 use Rattle.maps.specs.Checks.{first_fault}
-use Rattle.morphology.specs.declared.calls.Levels.{Levels}
 use Rattle.morphology.specs.Levels.{moved}
 use Rattle.bench.specs.Settings.{calling, room_of}
 use Rattle.bench.specs.Checks.{handed_checks, level_checks}
@@ -16,35 +15,35 @@ returns-in_err-check_handed g c =
     let call = calling c.args.operation c.args.size in
     let room = room_of c.args.marks.now c.args.queue.now c.args.spare.now in
     let handed = handed_checks j c.args.map.now b.tile (length c.args.picture.now) room in
-    let later = level_checks call b.levels.present b.count in
+    let later = level_checks call b.book.levels.present b.book.count in
     let p = err_from_is_err_and c.from_residual.result c.from_residual.ensures.1 in
     rw (p.1, p.2)
     (record {
-      answer_is = refused_early handed later tt (moved call b.levels).present c.in_err-check_handed.ensures.answer;
+      answer_is = refused_early handed later tt (moved call b.book.levels).present c.in_err-check_handed.ensures.answer;
       levels_are = refl;
       count_is = refl;
       tile_stays = refl;
       picture_is = refl;
     })
 
-pub returns-in_err-levels : goal.returns-in_err-levels
-returns-in_err-levels g c =
+pub returns-in_err-level : goal.returns-in_err-level
+returns-in_err-level g c =
     let b = c.args.bench.now in
     let j = g.C.Criterion.judgement c.args.criterion.now in
     let call = calling c.args.operation c.args.size in
     let room = room_of c.args.marks.now c.args.queue.now c.args.spare.now in
     let handed = handed_checks j c.args.map.now b.tile (length c.args.picture.now) room in
-    let later = level_checks call b.levels.present b.count in
-    let after = moved call b.levels in
-    let back = c.from_residual-in_err-levels in
+    let later = level_checks call b.book.levels.present b.book.count in
+    let after = moved call b.book.levels in
+    let back = c.from_residual-in_err-level in
     let p = err_from_is_err_and back.result back.ensures.1 in
-    let e = c.in_err-levels.ensures in
+    let e = c.in_err-level.ensures in
     rw (p.1, p.2)
     (record {
-      answer_is = refused_late handed later tt after after.present c.in_ok-check_handed.ensures.answer e.answer;
+      answer_is = refused_late handed later tt after.present after.present c.in_ok-check_handed.ensures.answer e.answer;
       levels_are = e.levels;
       count_is = e.count;
-      tile_stays = e.tile;
+      tile_stays = refl;
       picture_is = refl;
     })
 
@@ -55,17 +54,14 @@ returns g c =
     let call = calling c.args.operation c.args.size in
     let room = room_of c.args.marks.now c.args.queue.now c.args.spare.now in
     let handed = handed_checks j c.args.map.now b.tile (length c.args.picture.now) room in
-    let later = level_checks call b.levels.present b.count in
-    let after = moved call b.levels in
-    let e = c.in_ok-levels.ensures in
-    let l = c.in_ok-levels.levels in
-    let present : to_z w8 (of_z w8 l.present) ≡ after.present =
-    to_z-of_z w8 l.present (search rules) ∙ ap (λ (k : Levels). k.present) (the_value (first_fault later) after e.answer) in
+    let later = level_checks call b.book.levels.present b.book.count in
+    let after = moved call b.book.levels in
+    let e = c.in_ok-level.ensures in
     record {
       answer_is =
-          ap Ok present ∙ accepted_by_all handed later tt after after.present c.in_ok-check_handed.ensures.answer e.answer;
+          ap Ok (to_z-of_z w8 c.in_ok-level.level (search rules) ∙ the_value (first_fault later) after.present e.answer) ∙ accepted_by_all handed later tt after.present after.present c.in_ok-check_handed.ensures.answer e.answer;
       levels_are = e.levels;
       count_is = e.count;
-      tile_stays = e.tile;
-      picture_is = c.operate.ensures;
+      tile_stays = refl;
+      picture_is = rw c.unwrap.ensures at c.operate.ensures.picture;
     }

@@ -1,5 +1,4 @@
-use Rattle.std.proofs.Common.{◌≡◌, true, eqb, ltb, length, sym, ap, ◌∙◌, lt-ltb, eq-eqb}
-use Rattle.std.proofs.lemmas.Bool.{and_from}
+use Rattle.std.proofs.Common.{◌≡◌, true, length, sym, ap, ◌∙◌, lt-ltb, eq-eqb}
 use Rattle.maps.specs.Checks.{first_fault}
 use Rattle.maps.specs.Windows.{pixels_of}
 use Rattle.maps.proofs.Nearness.{near_itself}
@@ -20,15 +19,12 @@ returns g c =
     let L = g.met.S.Scale.lattice in
     let ok = c.in_ok-check_seat.ensures in
     let tile = c.new.ensures.tile in
-    let width = ap (λ (t : Tile). t.width) tile ∙ c.width.ensures in
-    let height = ap (λ (t : Tile). t.height) tile ∙ c.height.ensures in
-    let joining = ap (λ (t : Tile). t.joining) tile ∙ c.joining.ensures in
+    let width = ap (λ (t : Tile). t.width) tile ∙ c.of.ensures.width in
+    let height = ap (λ (t : Tile). t.height) tile ∙ c.of.ensures.height in
+    let joining = ap (λ (t : Tile). t.joining) tile ∙ c.of.ensures.joining in
     let b = c.new.result in
     let fits : matches map b.tile ≡ true =
-    and_from (ltb 0 (pixels_of map)) _ (lt-ltb 0 (pixels_of map) ok.filled)
-    (and_from (eqb map.width b.tile.width) _ (eq-eqb map.width b.tile.width (sym width))
-    (and_from (eqb map.height b.tile.height) (eqb map.joining b.tile.joining)
-    (eq-eqb map.height b.tile.height (sym height)) (eq-eqb map.joining b.tile.joining (sym joining)))) in
+    rw (lt-ltb 0 (pixels_of map) ok.filled, eq-eqb map.width b.tile.width (sym width), eq-eqb map.height b.tile.height (sym height), eq-eqb map.joining b.tile.joining (sym joining)) in
     record {
       fault = sym (no_fault (first_fault (seat_checks j map (length f))) tt ok.answer);
       seated = record {

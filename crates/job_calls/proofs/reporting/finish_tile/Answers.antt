@@ -31,4 +31,4 @@ returns g c =
     let picture = c.filter_tile.new.picture in
     let one = string_bytes c.filter_tile.new.text in
     let ending = ending_of c.args.view in
-    printed ending c.args.records.now c.args.left h grey b picture one _ (c.in_ok-bench.ensures ending) (c.in_ok-push_ending.ensures ∙ ap (λ q. one ++ ending q.head c.copy_from_slice.new.self picture b.levels b.count) c.place.ensures ∙ ap (λ x. one ++ ending h x picture b.levels b.count) c.copy_from_slice.ensures.after)
+    printed ending c.args.records.now c.args.left h grey b picture one _ (c.in_ok-bench.ensures ending) (c.in_ok-push_ending.ensures ∙ ap (λ q. one ++ ending q.head c.copy_from_slice.new.self picture b.book.levels b.book.count) c.place.ensures ∙ ap (λ x. one ++ ending h x picture b.book.levels b.book.count) c.copy_from_slice.ensures.after)

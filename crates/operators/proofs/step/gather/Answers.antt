@@ -5,7 +5,7 @@ use Rattle.operators.proofs.Sweeping.{towards_lattice}
 use Rattle.operators.proofs.step.gather.Goals as goal
 
 pub loop-pixel-init : goal.loop-pixel-init
-loop-pixel-init g c = gather_none (towards_lattice c.args.up g.met.S.Scale.lattice)
+loop-pixel-init g c = gather_none (towards_lattice g.O.Operator.up g.met.S.Scale.lattice)
 
 pub loop-pixel-preserved : goal.loop-pixel-preserved
 loop-pixel-preserved g c =
@@ -14,7 +14,7 @@ loop-pixel-preserved g c =
     let more = c.loop-pixel-test.true in
     let value = at_read c.args.picture.now (get_or pixels i 0) _ (c.requires i more) c.index-picture-pixel.is in
     rw c.pick-all.ensures
-    (gather_more (towards_lattice c.args.up g.met.S.Scale.lattice) (at_getD pixels i 0 more) value c.loop-pixel.invariant)
+    (gather_more (towards_lattice g.O.Operator.up g.met.S.Scale.lattice) (at_getD pixels i 0 more) value c.loop-pixel.invariant)
 
 pub returns : goal.returns
 returns g c = gather_all c.loop-pixel-test.false c.loop-pixel.invariant

@@ -5,4 +5,4 @@ use Rattle.operators.proofs.step.gather.Given as goal
 
 abbrev pub invariant-loop-pixel : goal.invariant-loop-pixel
 invariant-loop-pixel g l =
-    JoinOf (towards l.up g.S.Scale.grading) (OwnOrOver l.initial.all (Early l.pixels l.pixel-index) l.picture) l.all
+    JoinOf (towards g.O.Operator.up g.S.Scale.grading) (OwnOrOver l.initial.all (Early l.pixels l.pixel-index) l.picture) l.all

@@ -1,5 +1,5 @@
 use Rattle.std.proofs.Common.{◌<◌, length, get_or, arith}
-use Rattle.morphology.proofs.Values.{at_getD}
+use Rattle.morphology.proofs.Values.{at_getD, at_read}
 use Rattle.operators.proofs.Listed.{put_none, put_more, put_all}
 use Rattle.operators.proofs.step.put.Goals as goal
 
@@ -12,7 +12,8 @@ loop-pixel-preserved g c =
     let i = c.loop-pixel.pixel-index in
     let here = at_getD pixels i 0 c.loop-pixel-test.true in
     let within : get_or pixels i 0 < length c.loop-pixel.spare = omega (arith, c.requires.within i c.loop-pixel-test.true) in
-    rw c.put_at.ensures (put_more c.requires.once here within c.loop-pixel.invariant)
+    let value = at_read c.loop-pixel.spare (get_or pixels i 0) _ within c.index-spare-pixel.is in
+    rw c.pick.ensures (put_more c.requires.once here value c.loop-pixel.invariant)
 
 pub returns : goal.returns
 returns g c = put_all c.loop-pixel-test.false c.loop-pixel.invariant

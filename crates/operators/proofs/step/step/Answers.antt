@@ -4,15 +4,15 @@ use Rattle.operators.proofs.Sweeping.{towards_lattice, sweeping_none, sweeping_m
 use Rattle.operators.proofs.step.step.Goals as goal
 
 pub loop-z-init : goal.loop-z-init
-loop-z-init g c = sweeping_none (towards_lattice c.args.up g.met.S.Scale.lattice) c.copy_from_slice.ensures.after
+loop-z-init g c = sweeping_none (towards_lattice g.O.Operator.up g.met.S.Scale.lattice) c.copy_from_slice.ensures.after
 
 pub loop-z-preserved : goal.loop-z-preserved
 loop-z-preserved g c =
-    sweeping_more (towards_lattice c.args.up g.met.S.Scale.lattice)
+    sweeping_more (towards_lattice g.O.Operator.up g.met.S.Scale.lattice)
     c.loop-z.invariant c.spread.ensures.spare c.spread.auto.spare c.spread.ensures.marks
 
 pub returns : goal.returns
 returns g c =
     let end : c.loop-z.z ≡ pixels_of c.args.map.now = omega (arith, c.requires.picture_fits, c.loop-z.auto.z-end) in
-    let dilated = sweeping_all (towards_lattice c.args.up g.met.S.Scale.lattice) end c.loop-z.invariant in
+    let dilated = sweeping_all (towards_lattice g.O.Operator.up g.met.S.Scale.lattice) end c.loop-z.invariant in
     record { picture = c.copy_from_slice-2.ensures.after ∙ dilated; marks = c.loop-z.invariant.marks_kept }
