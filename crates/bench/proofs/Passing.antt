@@ -1,11 +1,7 @@
 -- What an answer says of the checks that led to it. Assumes nothing.
 use Rattle.std.proofs.Common.{◌≡◌, ℕ, Bool, true, false, cond, List, [], ◌∷◌, ◌++◌, Some, None, Ok, Err, Option, sym, refl, ap, ◌∙◌, arith}
 use Rattle.maps.specs.Checks.{Check, first_fault, answered}
-
--- a call that answers a value found no fault
-pub no_fault : {V F : Type 0} (x : Option F) (u : V) {v : V} → Ok v ≡ answered x u → x ≡ None
-no_fault None u e = refl
-no_fault (Some f) u e = let bad : ◌≡◌ {A = ℕ} 0 1 = cc in absurd (omega arith)
+use Rattle.maps.proofs.Answering.{no_fault}
 
 pub the_value : {V F : Type 0} (x : Option F) (u : V) {v : V} → Ok v ≡ answered x u → v ≡ u
 the_value None u e = cc

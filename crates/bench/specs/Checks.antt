@@ -8,10 +8,13 @@ use Rattle.maps.specs.Windows.{pixels_of}
 use Rattle.maps.specs.Admission.{admission_check}
 use Rattle.morphology.specs.Calls.{Call}
 use Rattle.morphology.specs.Levels.{touched}
-use Rattle.bench.specs.declared.bench.Tile.{Tile}
+use Rattle.maps.specs.declared.tile.Tile.{Tile}
+use Rattle.maps.specs.Joinings.{number_of}
 use Rattle.bench.specs.declared.scratch.Room.{Room}
 use Rattle.bench.specs.declared.fault.BenchFault.{BenchFault}
 use Rattle.bench.specs.declared.fault.BenchFault.TheVariants as fault
+use Rattle.bench.specs.declared.fault.Misfit.TheVariants as misfit
+use Rattle.criteria.specs.declared.fault.Part.TheVariants as part
 use Rattle.bench.specs.Settings.{Setting, Standing, Asked}
 
 -- a check of the map layer, its fault inside one of the bench layer
@@ -20,11 +23,11 @@ from_map c = record { holds = c.holds; fault = fault.Map c.fault }
 
 -- the map has a pixel
 abbrev pub some_pixel : {V : Type 0} → Map V → Check BenchFault
-some_pixel map = record { holds = nat_lt 0 (pixels_of map); fault = fault.Misfit 1 }
+some_pixel map = record { holds = nat_lt 0 (pixels_of map); fault = fault.Misfit misfit.Map }
 
 -- the picture has a value for each pixel
 abbrev pub picture_fits : {V : Type 0} → Map V → ℕ → Check BenchFault
-picture_fits map count = record { holds = (count == pixels_of map); fault = fault.Misfit 2 }
+picture_fits map count = record { holds = (count == pixels_of map); fault = fault.Misfit misfit.Picture }
 
 -- the checks of seat, of a picture of this many values
 abbrev pub seat_checks : {V : Type 0} → Judgement V → Map V → ℕ → List (Check BenchFault)
@@ -32,14 +35,14 @@ seat_checks j map count = some_pixel map ∷ picture_fits map count ∷ from_map
 
 -- the test whether the map has a pixel, and this width, height and joining
 abbrev pub matches : {V : Type 0} → Map V → Tile → Bool
-matches map t = nat_lt 0 (pixels_of map) && (map.width == t.width && (map.height == t.height && map.joining == t.joining))
+matches map t = nat_lt 0 (pixels_of map) && (map.tile.width == t.width && (map.tile.height == t.height && number_of map.tile.joining == number_of t.joining))
 
 -- each part of the scratch has an entry for each of n pixels
 abbrev pub scratch_checks : ℕ → Room → List (Check BenchFault)
 scratch_checks n room =
-    record { holds = nat_le n room.marks; fault = fault.Scratch 1 }
-    ∷ record { holds = nat_le n room.queue; fault = fault.Scratch 2 }
-    ∷ record { holds = nat_le n room.spare; fault = fault.Scratch 3 }
+    record { holds = nat_le n room.marks; fault = fault.Scratch part.Marks }
+    ∷ record { holds = nat_le n room.queue; fault = fault.Scratch part.Queue }
+    ∷ record { holds = nat_le n room.spare; fault = fault.Scratch part.Spare }
     ∷ []
 
 -- a size is 1 to 16
@@ -69,7 +72,7 @@ room_checks j map room = scratch_checks (pixels_of map) room ++ from_map (admiss
 -- the checks of what a call is handed, the map's tile and the picture's count first
 abbrev pub handed_checks : {V : Type 0} → Judgement V → Map V → Tile → ℕ → Room → List (Check BenchFault)
 handed_checks j map t count room =
-    record { holds = matches map t; fault = fault.Misfit 1 } ∷ picture_fits map count ∷ room_checks j map room
+    record { holds = matches map t; fault = fault.Misfit misfit.Map } ∷ picture_fits map count ∷ room_checks j map room
 
 -- all checks of a filter call
 abbrev pub filter_checks : {V S : Type 0} → Setting V S → Asked → Standing S → List (Check BenchFault)

@@ -46,9 +46,7 @@ pub record Lawful {V S : Type 0} (s : Setting V S) (f : List S) (asked : List As
 
 -- The bench b on which the picture f is seated, and the law over every list of calls from there.
 pub record Seated {V S : Type 0} (s : Setting V S) (f : List S) (b : Bench) : Type 0 where
-  pub width_is : b.tile.width ≡ s.map.width
-  pub height_is : b.tile.height ≡ s.map.height
-  pub joining_is : b.tile.joining ≡ s.map.joining
+  pub tile_is : b.tile ≡ s.map.tile
   pub levels_start : b.book.levels ≡ at_zero
   pub count_starts : b.book.count ≡ 0
   -- the operators are the join and the meet over the symmetric neighbourhood, since each pixel is near itself

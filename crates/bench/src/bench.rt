@@ -3,30 +3,8 @@ ghost use Rattle.std.specs.Prelude.{◌≡◌, ◌≤◌};
 ghost use Rattle.morphology.specs.Levels.{at_zero};
 
 use crate::book::Book;
-use maps::Map;
+use maps::Tile;
 use morphology::Levels;
-
-// Width, height and joining of the map with which a picture was seated.
-#[derive(Clone, Copy, PartialEq, Eq, Debug)]
-pub struct Tile {
-    pub(crate) width: usize,
-    pub(crate) height: usize,
-    pub(crate) joining: u8,
-}
-
-impl Tile {
-    pub(crate) fn of<V>(map: &Map<V>) -> Tile
-        ensures width { result.width ≡ map.now.width }
-        ensures height { result.height ≡ map.now.height }
-        ensures joining { result.joining ≡ map.now.joining }
-    {
-        Tile {
-            width: map.width(),
-            height: map.height(),
-            joining: map.joining(),
-        }
-    }
-}
 
 // A seated picture's bench. Its levels stay within −64 and 64, and its book has at most 60,000 calls.
 #[derive(Drop)]

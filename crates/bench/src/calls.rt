@@ -1,5 +1,4 @@
 // The four filter calls.
-ghost use Rattle.std.specs.Prelude.{◌≡◌, length, replicate};
 ghost use Rattle.bench.specs.Settings.{setting, standing, asking};
 ghost use Rattle.bench.specs.Calls.{Filtered, Cleared};
 
@@ -10,7 +9,7 @@ use crate::scratch::{Room, Scratch};
 use criteria::Criterion;
 use maps::Map;
 use morphology::Operation;
-use neighbourhoods::{Marks, Queue, fill};
+use neighbourhoods::Lent;
 use operators::operate;
 use scales::Scale;
 
@@ -44,13 +43,6 @@ fn attempt<C: Criterion, S: Scale>(
     Ok(level)
 }
 
-// Writes the lowest value into each element.
-fn clear_spare<S: Scale>(spare: &mut [S])
-    ensures { spare.new ≡ replicate (length spare.new) S.grading.lowest }
-{
-    fill(spare, S::lowest());
-}
-
 // Does the filter call of this operation or refuses it, and leaves the scratch clear however it ends.
 pub fn filter<C: Criterion, S: Scale>(
     operation: Operation,
@@ -68,13 +60,12 @@ pub fn filter<C: Criterion, S: Scale>(
         (standing bench.old picture.old) result (standing bench.new picture.new) }
     ensures cleared { Cleared S.grading.lowest marks.new queue.new spare.new }
 {
-    let marks = Marks(marks);
-    let queue = Queue(queue);
-    let answer = attempt(
-        operation, size, bench, map, criterion, picture, marks.0, queue.0, spare,
-    );
-    clear_spare(spare);
-    answer
+    let marks = Lent(marks, 0);
+    let queue = Lent(queue, 0);
+    let spare = Lent(spare, S::lowest());
+    attempt(
+        operation, size, bench, map, criterion, picture, marks.0, queue.0, spare.0,
+    )
 }
 
 // Dilates the picture `size` times.

@@ -5,17 +5,16 @@ ghost use Rattle.maps.specs.Admission.{admission_check, inadmissible};
 ghost use Rattle.maps.specs.Windows.{pixels_of};
 ghost use Rattle.bench.specs.Checks.{from_map, matches, seat_checks, room_checks, handed_checks, size_check, level_check, book_check};
 
-use crate::bench::Tile;
-use crate::fault::BenchFault;
+use crate::fault::{BenchFault, Misfit};
 use crate::scratch::Room;
-use criteria::Criterion;
-use maps::{Map, check_admitted};
+use criteria::{Criterion, Part};
+use maps::{Map, Tile, check_admitted};
 
 // Whether the map has a pixel, and this width, height and joining.
 fn fits<V>(map: &Map<V>, tile: Tile) -> bool
     ensures { result ≡ matches map.now tile }
 {
-    map.pixels() > 0 && Tile::of(map) == tile
+    map.pixels() > 0 && map.tile() == tile
 }
 
 // Refuses a map with a value that is not admitted.
@@ -40,10 +39,10 @@ pub(crate) fn check_seat<C: Criterion>(
     ensures answer { result ≡ answered (first_fault (seat_checks (C.judgement criterion.now) map.now count)) tt }
 {
     if map.pixels() == 0 {
-        return Err(BenchFault::Misfit(1));
+        return Err(BenchFault::Misfit(Misfit::Map));
     }
     if count != map.pixels() {
-        return Err(BenchFault::Misfit(2));
+        return Err(BenchFault::Misfit(Misfit::Picture));
     }
     check_admission(criterion, map)?;
     Ok(())
@@ -62,13 +61,13 @@ fn check_room<C: Criterion>(
 {
     let pixels = map.pixels();
     if room.marks < pixels {
-        return Err(BenchFault::Scratch(1));
+        return Err(BenchFault::Scratch(Part::Marks));
     }
     if room.queue < pixels {
-        return Err(BenchFault::Scratch(2));
+        return Err(BenchFault::Scratch(Part::Queue));
     }
     if room.spare < pixels {
-        return Err(BenchFault::Scratch(3));
+        return Err(BenchFault::Scratch(Part::Spare));
     }
     check_admission(criterion, map)
 }
@@ -89,10 +88,10 @@ pub(crate) fn check_handed<C: Criterion>(
     ensures spare { OnOk result (pixels_of map.now ≤ room.spare) }
 {
     if !fits(map, tile) {
-        return Err(BenchFault::Misfit(1));
+        return Err(BenchFault::Misfit(Misfit::Map));
     }
     if count != map.pixels() {
-        return Err(BenchFault::Misfit(2));
+        return Err(BenchFault::Misfit(Misfit::Picture));
     }
     check_room(map, criterion, room)
 }

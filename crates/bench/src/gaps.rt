@@ -3,7 +3,7 @@ ghost use Rattle.std.specs.Prelude.{◌≡◌, ◌≤◌, length};
 ghost use Rattle.maps.specs.Checks.{first_fault, answered};
 ghost use Rattle.bench.specs.Residues.{residue_checks, gap_sum};
 
-use crate::fault::BenchFault;
+use crate::fault::{BenchFault, Misfit};
 use scales::Measured;
 
 // The sum over all pixels of the gap of the first picture over the second.
@@ -27,7 +27,7 @@ pub fn residue<S: Measured>(first: &[S], second: &[S]) -> Result<u32, BenchFault
         return Err(BenchFault::Tile);
     }
     if first.len() != second.len() {
-        return Err(BenchFault::Misfit(2));
+        return Err(BenchFault::Misfit(Misfit::Picture));
     }
     Ok(sum_gaps(first, second))
 }

@@ -13,7 +13,7 @@ mod seating;
 
 pub use bench::Bench;
 pub use calls::{close, dilate, erode, filter, open};
-pub use fault::BenchFault;
+pub use fault::{BenchFault, Misfit};
 pub use gaps::residue;
 pub use note::{Note, finish};
 pub use scratch::Scratch;

@@ -6,7 +6,7 @@ ghost use Rattle.bench.specs.Settings.{setting};
 ghost use Rattle.bench.specs.Checks.{seat_checks};
 ghost use Rattle.bench.specs.Laws.{Seated};
 
-use crate::bench::{Bench, Tile};
+use crate::bench::Bench;
 use crate::checks::check_seat;
 use crate::fault::BenchFault;
 use criteria::Criterion;
@@ -24,5 +24,5 @@ pub fn seat<C: Criterion, S: Scale>(
     ensures seated { IfOk result (Seated (setting S.grading (C.judgement criterion.now) map.now) picture.now) }
 {
     check_seat(map, criterion, picture.len())?;
-    Ok(Bench::new(Tile::of(map)))
+    Ok(Bench::new(map.tile()))
 }

@@ -9,7 +9,8 @@ use Rattle.morphology.specs.Calls.{Call}
 use Rattle.bench.specs.Settings.{Setting, Standing, Asked}
 use Rattle.bench.specs.Checks.{filter_checks}
 use Rattle.bench.specs.Calls.{Answer, Filtered, Run, no_call, one_more}
-use Rattle.bench.proofs.Passing.{the_value, the_fault, no_fault}
+use Rattle.maps.proofs.Answering.{no_fault}
+use Rattle.bench.proofs.Passing.{the_value, the_fault}
 use Rattle.records.specs.declared.fault.ReaderFault.{ReaderFault}
 use Rattle.records.specs.declared.fault.ReaderFault.TheVariants.{Torn}
 use Rattle.records.specs.declared.place.State.{State}

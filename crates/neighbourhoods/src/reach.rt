@@ -75,16 +75,10 @@ pub fn reach_weak<C: Criterion>(
     ensures marks_cleared { marks.new ≡ zeros (length marks.old) }
     ensures queue_cleared { queue.new ≡ zeros (length queue.old) }
 {
-    let marks = Lent {
-        slice: marks,
-        after: 0,
-    };
-    let queue = Lent {
-        slice: queue,
-        after: 0,
-    };
-    check_reach(criterion, map, pixel, sheet, marks.slice, queue.slice)?;
-    show_weak(criterion, map, pixel, sheet, marks.slice, queue.slice);
+    let marks = Lent(marks, 0);
+    let queue = Lent(queue, 0);
+    check_reach(criterion, map, pixel, sheet, marks.0, queue.0)?;
+    show_weak(criterion, map, pixel, sheet, marks.0, queue.0);
     Ok(())
 }
 
@@ -102,15 +96,9 @@ pub fn reach_symmetric<C: Criterion>(
     ensures marks_cleared { marks.new ≡ zeros (length marks.old) }
     ensures queue_cleared { queue.new ≡ zeros (length queue.old) }
 {
-    let marks = Lent {
-        slice: marks,
-        after: 0,
-    };
-    let queue = Lent {
-        slice: queue,
-        after: 0,
-    };
-    check_reach(criterion, map, pixel, sheet, marks.slice, queue.slice)?;
-    show_symmetric(criterion, map, pixel, sheet, marks.slice, queue.slice);
+    let marks = Lent(marks, 0);
+    let queue = Lent(queue, 0);
+    check_reach(criterion, map, pixel, sheet, marks.0, queue.0)?;
+    show_symmetric(criterion, map, pixel, sheet, marks.0, queue.0);
     Ok(())
 }

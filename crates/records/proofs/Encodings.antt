@@ -2,7 +2,8 @@
 use Rattle.std.proofs.Common.{◌≡◌, ℕ, ◌+◌, ◌*◌, ◌/◌, ◌%◌, ◌<◌, Bool, true, false, cond, eqb, List, [], ◌∷◌, length, Some, None, Ok, Option, sym, refl, ap, ◌∙◌, subst, true≢false, arith}
 use Rattle.std.proofs.lemmas.Bool.{eq-eqb, eqb-true, and_parts}
 use Rattle.maps.specs.Checks.{first_fault}
-use Rattle.bench.proofs.Passing.{no_fault, the_value}
+use Rattle.maps.proofs.Answering.{no_fault}
+use Rattle.bench.proofs.Passing.{the_value}
 use Rattle.records.specs.declared.records.Shape.{Shape}
 use Rattle.records.specs.declared.records.Shape.TheVariants.{Step, Tone, Turn}
 use Rattle.morphology.specs.declared.calls.Operation.{Operation}

@@ -1,14 +1,20 @@
-use Rattle.std.proofs.Common.{◌≡◌, true, length, sym, ap, ◌∙◌, lt-ltb, eq-eqb}
+use Rattle.std.proofs.Common.{◌≡◌, ◌<◌, true, length, sym, refl, ◌∙◌, lt-ltb, eq-eqb}
+use Rattle.maps.specs.declared.map.Map.{Map}
+use Rattle.maps.specs.Joinings.{number_of}
 use Rattle.maps.specs.Checks.{first_fault}
 use Rattle.maps.specs.Windows.{pixels_of}
 use Rattle.maps.proofs.Nearness.{near_itself}
 use Rattle.morphology.proofs.Operators.{operators}
-use Rattle.bench.specs.declared.bench.Tile.{Tile}
 use Rattle.bench.specs.Settings.{setting, ground_of}
 use Rattle.bench.specs.Checks.{matches, seat_checks}
-use Rattle.bench.proofs.Passing.{no_fault}
+use Rattle.maps.proofs.Answering.{no_fault}
 use Rattle.bench.proofs.Running.{lawful}
 use Rattle.bench.proofs.seating.seat.Goals as goal
+
+-- a map that has a pixel has its own tile
+own_tile : {V : Type 0} (map : Map V) → 0 < pixels_of map → matches map map.tile ≡ true
+own_tile map some =
+    rw (lt-ltb 0 (pixels_of map) some, eq-eqb map.tile.width map.tile.width refl, eq-eqb map.tile.height map.tile.height refl, eq-eqb (number_of map.tile.joining) _ refl) refl
 
 pub returns : goal.returns
 returns g c =
@@ -18,19 +24,13 @@ returns g c =
     let f = c.args.picture.now in
     let L = g.met.S.Scale.lattice in
     let ok = c.in_ok-check_seat.ensures in
-    let tile = c.new.ensures.tile in
-    let width = ap (λ (t : Tile). t.width) tile ∙ c.of.ensures.width in
-    let height = ap (λ (t : Tile). t.height) tile ∙ c.of.ensures.height in
-    let joining = ap (λ (t : Tile). t.joining) tile ∙ c.of.ensures.joining in
+    let tile = c.new.ensures.tile ∙ c.tile.ensures in
     let b = c.new.result in
-    let fits : matches map b.tile ≡ true =
-    rw (lt-ltb 0 (pixels_of map) ok.filled, eq-eqb map.width b.tile.width (sym width), eq-eqb map.height b.tile.height (sym height), eq-eqb map.joining b.tile.joining (sym joining)) in
+    let fits : matches map b.tile ≡ true = rw tile (own_tile map ok.filled) in
     record {
       fault = sym (no_fault (first_fault (seat_checks j map (length f))) tt ok.answer);
       seated = record {
-        width_is = width;
-        height_is = height;
-        joining_is = joining;
+        tile_is = tile;
         levels_start = c.new.ensures.levels;
         count_starts = c.new.ensures.count;
         near_itself = near_itself j (g.met.C.Criterion.itself c.args.criterion.now) map ok.admitted;
