@@ -53,9 +53,3 @@ module _ {F : Type 0} where
       Ok o ≡ answered (first_fault xs) u → Err f ≡ answered (first_fault ys) v → Err f ≡ answered (first_fault (xs ++ ys)) w
   refused_late xs ys u v w first e =
       sym (ap (λ x. answered x w) (past xs ys (no_fault (first_fault xs) u first) ∙ the_fault (first_fault ys) v e))
-
-  -- both pass
-  pub accepted_by_all : {U V W : Type 0} (xs ys : List (Check F)) (u : U) (v : V) (w : W) {o : U} {p : V} →
-      Ok o ≡ answered (first_fault xs) u → Ok p ≡ answered (first_fault ys) v → Ok w ≡ answered (first_fault (xs ++ ys)) w
-  accepted_by_all xs ys u v w first e =
-      sym (ap (λ x. answered x w) (past xs ys (no_fault (first_fault xs) u first) ∙ no_fault (first_fault ys) v e))
