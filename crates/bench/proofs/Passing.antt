@@ -1,17 +1,17 @@
 -- What an answer says of the checks that led to it. Assumes nothing.
-use Rattle.std.proofs.Common.{◌≡◌, ℕ, Bool, true, false, cond, List, [], ◌∷◌, ◌++◌, Some, None, Ok, Err, Option, sym, refl, ap, ◌∙◌, arith}
+use Rattle.std.proofs.Common.{◌≡◌, Bool, true, false, cond, List, [], ◌∷◌, ◌++◌, Some, None, Ok, Err, Option, sym, refl, ap, ◌∙◌}
 use Rattle.maps.specs.Checks.{Check, first_fault, answered}
 use Rattle.maps.proofs.Answering.{no_fault}
 
 pub the_value : {V F : Type 0} (x : Option F) (u : V) {v : V} → Ok v ≡ answered x u → v ≡ u
 the_value None u e = cc
-the_value (Some f) u e = let bad : ◌≡◌ {A = ℕ} 0 1 = cc in absurd (omega arith)
+the_value (Some f) u e = cc
 
 module _ {F : Type 0} where
   past_one : (b : Bool) (x y : Option F) (f : F) {z : Option F} → (x ≡ None → y ≡ z) →
       cond b x (Some f) ≡ None → cond b y (Some f) ≡ z
   past_one true x y f more e = more e
-  past_one false x y f more e = let bad : ◌≡◌ {A = ℕ} 0 1 = cc in absurd (omega arith)
+  past_one false x y f more e = cc
 
   -- where the first checks find nothing, the later ones decide
   pub past : (xs ys : List (Check F)) → first_fault xs ≡ None → first_fault (xs ++ ys) ≡ first_fault ys
@@ -25,7 +25,7 @@ module _ {F : Type 0} where
 
   -- the fault of the first checks is that of all
   pub stops : (xs ys : List (Check F)) {f : F} → first_fault xs ≡ Some f → first_fault (xs ++ ys) ≡ Some f
-  stops [] ys e = let bad : ◌≡◌ {A = ℕ} 0 1 = cc in absurd (omega arith)
+  stops [] ys e = cc
   stops (c ∷ xs) ys e = stops_one c.holds (first_fault xs) (first_fault (xs ++ ys)) c.fault (stops xs ys) e
 
   -- a check that holds can be left out
@@ -36,7 +36,7 @@ module _ {F : Type 0} where
 
   -- a call that refuses names the fault found
   pub the_fault : {V : Type 0} (x : Option F) (u : V) {f : F} → Err f ≡ answered x u → x ≡ Some f
-  the_fault None u e = let bad : ◌≡◌ {A = ℕ} 0 1 = cc in absurd (omega arith)
+  the_fault None u e = cc
   the_fault (Some g) u e = cc
 
   -- the first checks refuse: so do all
@@ -49,9 +49,3 @@ module _ {F : Type 0} where
       Ok o ≡ answered (first_fault xs) u → Err f ≡ answered (first_fault ys) v → Err f ≡ answered (first_fault (xs ++ ys)) w
   refused_late xs ys u v w first e =
       sym (ap (λ x. answered x w) (past xs ys (no_fault (first_fault xs) u first) ∙ the_fault (first_fault ys) v e))
-
-  -- both pass
-  pub accepted_by_all : {U V W : Type 0} (xs ys : List (Check F)) (u : U) (v : V) (w : W) {o : U} {p : V} →
-      Ok o ≡ answered (first_fault xs) u → Ok p ≡ answered (first_fault ys) v → Ok w ≡ answered (first_fault (xs ++ ys)) w
-  accepted_by_all xs ys u v w first e =
-      sym (ap (λ x. answered x w) (past xs ys (no_fault (first_fault xs) u first) ∙ no_fault (first_fault ys) v e))

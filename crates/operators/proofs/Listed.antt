@@ -9,7 +9,7 @@ use Rattle.morphology.proofs.Pictures.{at_bound, at_one}
 use Rattle.morphology.proofs.Values.{at_set_same, at_set_other}
 use Rattle.morphology.proofs.Sweep.{join_alone}
 use Rattle.neighbourhoods.specs.Listings.{In}
-use Rattle.operators.specs.Steps.{Once, OwnOrOver, Put, inside, outside, AllPut}
+use Rattle.operators.specs.Steps.{Once, Over, OwnOrOver, Put, inside, outside, AllPut}
 
 -- pixel p stands among the first k of the list
 pub record Early (pixels : List ℕ) (k p : ℕ) : Type 0 where
@@ -41,19 +41,19 @@ module _ {pixels : List ℕ} where
   in_early : {k p : ℕ} → length pixels ≤ k → In pixels p → Early pixels k p
   in_early past i = let h = at_bound i.1 in record { place = i.0; early = omega arith; there = i.1 }
 
+-- a value over some pixels is one over all others that they are among
+module _ {V : Type 0} {A B : ℕ → Type 0} (to : (p : ℕ) → A p → B p) {f : List V} {u : V} where
+  pub over_at : Over A f u → Over B f u
+  over_at o = record { pixel = o.pixel; member = to o.pixel o.member; value = o.value }
+
+  own_or_over_at : {own : V} → OwnOrOver own A f u → OwnOrOver own B f u
+  own_or_over_at (inl e) = inl e
+  own_or_over_at (inr o) = inr (over_at o)
+
 -- the same members in other words
 module _ {V : Type 0} {scale : Grading V} {A B : ℕ → Type 0} (to : (p : ℕ) → A p → B p) (from : (p : ℕ) → B p → A p) where
   own_or_over_same : {own : V} {f : List V} {b : V} → JoinOf scale (OwnOrOver own A f) b → JoinOf scale (OwnOrOver own B f) b
-  own_or_over_same j = join_same
-      (λ u h. elim h [
-        | inl e ↦ inl e
-        | inr o ↦ inr (record { pixel = o.pixel; member = to o.pixel o.member; value = o.value })
-      ])
-      (λ u h. elim h [
-        | inl e ↦ inl e
-        | inr o ↦ inr (record { pixel = o.pixel; member = from o.pixel o.member; value = o.value })
-      ])
-      j
+  own_or_over_same j = join_same (λ u. own_or_over_at to) (λ u. own_or_over_at from) j
 
   one_same : {v : V} {old : List V} {x : ℕ} {b : V} → Put scale A v old x b → Put scale B v old x b
   one_same {x = x} (inside m o) = inside (to x m) o
@@ -78,8 +78,7 @@ module _ {V : Type 0} {scale : Grading V} (L : Lattice scale) {own : V} {f : Lis
   gather_more {k} {p} at-k at_p j = join_same to from (join_both L j (join_alone L at_p))
     where
       to : (u : V) → OwnOrOver own (Early pixels k) f u ⊎ At f p u → OwnOrOver own (Early pixels (k + 1)) f u
-      to u (inl (inl e)) = inl e
-      to u (inl (inr o)) = inr (record { pixel = o.pixel; member = longer o.member; value = o.value })
+      to u (inl h) = own_or_over_at (λ q. longer) h
       to u (inr a) = inr (record { pixel = p; member = last at-k; value = a })
 
       from : (u : V) → OwnOrOver own (Early pixels (k + 1)) f u → OwnOrOver own (Early pixels k) f u ⊎ At f p u

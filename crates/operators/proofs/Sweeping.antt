@@ -11,7 +11,7 @@ use Rattle.morphology.proofs.Values.{at_getD}
 use Rattle.morphology.proofs.Sweep.{InWeak, Swept, SweptTo, swept_in, swept_out, sweep_starts, sweep_ends_anywhere}
 use Rattle.neighbourhoods.specs.Listings.{In, Lists}
 use Rattle.operators.specs.Steps.{towards, Within, Once, OwnOrOver, Over, Put, inside, outside, AllPut, Spread}
-use Rattle.operators.proofs.Listed.{put_same}
+use Rattle.operators.proofs.Listed.{over_at, put_same}
 
 -- either way the scale is a lattice
 pub towards_lattice : {V : Type 0} {scale : Grading V} (up : Bool) → Lattice scale → Lattice (towards up scale)
@@ -38,9 +38,9 @@ module _ {g : Ground} {z : ℕ} {pixels : List ℕ} (listed : Lists (Weak g z) p
     joins = λ w. join_same
         (λ u h. elim h [
           | inl e ↦ record { pixel = z; member = holds_centre w; value = subst (At f z) (sym e) at-z }
-          | inr o ↦ record { pixel = o.pixel; member = listed.sound o.member.1; value = o.value }
+          | inr o ↦ over_at (λ p i. listed.sound i.1) o
         ])
-        (λ u o. inr (record { pixel = o.pixel; member = listed.complete o.member; value = o.value }))
+        (λ u o. inr (over_at (λ p. listed.complete) o))
         j;
     put = put_same (λ p i. listed.sound i.1) (λ p. listed.complete) all;
   }

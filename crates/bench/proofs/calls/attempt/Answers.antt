@@ -1,11 +1,9 @@
-use Rattle.std.proofs.Common.{length, Ok, refl, ap, ◌∙◌, w8, rules}
+use Rattle.std.proofs.Common.{length, refl}
 use Rattle.std.proofs.lemmas.Result.{err_from_is_err_and}
-use Rattle.std.proofs.lemmas.Int.{to_z-of_z}
-use Rattle.maps.specs.Checks.{first_fault}
 use Rattle.morphology.specs.Levels.{moved}
 use Rattle.bench.specs.Settings.{calling, room_of}
 use Rattle.bench.specs.Checks.{handed_checks, level_checks}
-use Rattle.bench.proofs.Passing.{the_value, refused_early, refused_late, accepted_by_all}
+use Rattle.bench.proofs.Passing.{refused_early, refused_late}
 use Rattle.bench.proofs.calls.attempt.Goals as goal
 
 pub returns-in_err-check_handed : goal.returns-in_err-check_handed
@@ -46,22 +44,3 @@ returns-in_err-level g c =
       tile_stays = refl;
       picture_is = refl;
     })
-
-pub returns : goal.returns
-returns g c =
-    let b = c.args.bench.now in
-    let j = g.C.Criterion.judgement c.args.criterion.now in
-    let call = calling c.args.operation c.args.size in
-    let room = room_of c.args.marks.now c.args.queue.now c.args.spare.now in
-    let handed = handed_checks j c.args.map.now b.tile (length c.args.picture.now) room in
-    let later = level_checks call b.book.levels.present b.book.count in
-    let after = moved call b.book.levels in
-    let e = c.in_ok-level.ensures in
-    record {
-      answer_is =
-          ap Ok (to_z-of_z w8 c.in_ok-level.level (search rules) ∙ the_value (first_fault later) after.present e.answer) ∙ accepted_by_all handed later tt after.present after.present c.in_ok-check_handed.ensures.answer e.answer;
-      levels_are = e.levels;
-      count_is = e.count;
-      tile_stays = refl;
-      picture_is = rw c.unwrap.ensures at c.operate.ensures.picture;
-    }
