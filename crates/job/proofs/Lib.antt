@@ -3,4 +3,3 @@ pub mod Encodings
 pub mod Heads
 pub mod Jobs
 pub mod Readings
-pub mod Texts
