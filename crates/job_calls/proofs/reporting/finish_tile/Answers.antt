@@ -1,34 +1,25 @@
-use Rattle.std.proofs.Common.{◌≡◌, ◌*◌, ◌++◌, length, string_bytes, ap, ◌∙◌, arith}
+use Rattle.std.proofs.Common.{◌≡◌, ◌++◌, string_bytes, refl, ◌∙◌, arith}
+use Rattle.std.proofs.lemmas.Grind.{common_steps}
 use Rattle.std.proofs.lemmas.Result.{err_from_is_err_and}
-use Rattle.job_calls.specs.Jobs.{pixels}
-use Rattle.job_calls.specs.Prints.{ending_of}
-use Rattle.job_calls.proofs.Tiles.{passing_tile, some_pixel}
 use Rattle.job_calls.proofs.Ending.{left_off, printed}
 use Rattle.job_calls.proofs.reporting.finish_tile.Goals as goal
 
 pub returns-in_err-bench : goal.returns-in_err-bench
 returns-in_err-bench g c =
-    let p = err_from_is_err_and c.from_residual.result c.from_residual.ensures.1 in
-    rw (p.1, p.2) (left_off (ending_of c.args.view) c.args.records.now c.args.left c.args.reader.now.place.head c.args.picture.now c.filter_tile.new.picture (string_bytes c.filter_tile.new.text) c.in_err-bench.field-0.0 (c.in_err-bench.ensures (ending_of c.args.view)))
-
-pub push_ending-requires : goal.push_ending-requires
-push_ending-requires g c =
-    let h = c.args.reader.now.place.head in
-    let tile = c.requires.taken.tile in
-    let few = (passing_tile h tile.passes).pixels_fit in
-    let some = some_pixel h tile.passes in
-    let kept = c.filter_tile.auto.picture in
-    let area : c.place.result.head.width * c.place.result.head.height ≡ pixels h = ap (λ q. q.head.width * q.head.height) c.place.ensures in
-    let copied = ap length c.copy_from_slice.ensures.after in
-    let grey = tile.grey_count in
-    record { rows = omega arith; counts = (omega arith, omega arith, omega arith) }
+    let ending = g.V.View.ending in
+    let t = c.args.tile.now in
+    let p = err_from_is_err_and c.from_residual-in_err-bench.result c.from_residual-in_err-bench.ensures.1 in
+    rw (p.1, p.2) (left_off ending t.records.now t.left t.reader.place.head t.grey.now c.filter_by_shape.new.picture (string_bytes c.filter_by_shape.new.text) c.in_err-bench.field-0.0 (c.in_err-bench.ensures ending))
 
 pub returns : goal.returns
 returns g c =
-    let h = c.args.reader.now.place.head in
-    let grey = c.args.picture.now in
+    let ending = g.V.View.ending in
+    let t = c.args.tile.now in
     let b = c.in_ok-bench.bench in
-    let picture = c.filter_tile.new.picture in
-    let one = string_bytes c.filter_tile.new.text in
-    let ending = ending_of c.args.view in
-    printed ending c.args.records.now c.args.left h grey b picture one _ (c.in_ok-bench.ensures ending) (c.in_ok-push_ending.ensures ∙ ap (λ q. one ++ ending q.head c.copy_from_slice.new.self picture b.levels b.count) c.place.ensures ∙ ap (λ x. one ++ ending h x picture b.levels b.count) c.copy_from_slice.ensures.after)
+    let picture = c.filter_by_shape.new.picture in
+    let one = string_bytes c.filter_by_shape.new.text in
+    let filtered : c.deref.result.now ≡ picture = grind (arith, common_steps) in
+    let line : string_bytes c.push.new.text ≡ one ++ ending t.reader.place.head t.grey.now picture b.levels b.count =
+    c.in_ok-push.ensures ∙ rw (c.place.ensures, filtered, c.levels-levels.ensures, c.strike.ensures, c.finish.ensures.book) refl
+    in
+    printed ending t.records.now t.left t.reader.place.head t.grey.now b picture one _ (c.in_ok-bench.ensures ending) line
