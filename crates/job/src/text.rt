@@ -1,5 +1,5 @@
 // The text that a job prints.
-ghost use Rattle.std.specs.Prelude.{◌≡◌, length, IfOk, Some, string_bytes};
+ghost use Rattle.std.specs.Prelude.{◌≡◌, ◌<◌, length, IfOk, Some, string_bytes};
 ghost use Rattle.job.specs.Lines.{not_made};
 ghost use Rattle.job.specs.Texts.{sound_text, fault_ending, job_text};
 
@@ -28,7 +28,8 @@ impl fmt::Display for NotMade {
 
 // The text of a sound job.
 fn sound_report(heap: Global, reader: Reader, picture: &[u8]) -> Result<String, AllocError>
-    requires { length picture.now ≡ 4096 }
+    requires picture { length picture.now ≡ 4096 }
+    requires wide { 0 < reader.place.head.width }
     ensures { IfOk result (λ text. string_bytes text ≡ sound_text reader.place picture.now) }
 {
     let place = reader.place;

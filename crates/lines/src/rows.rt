@@ -1,5 +1,5 @@
 // The rows of a picture.
-ghost use Rattle.std.specs.Prelude.{◌*◌, ◌≤◌, length, Some};
+ghost use Rattle.std.specs.Prelude.{◌*◌, ◌<◌, ◌≤◌, length, Some};
 ghost use Rattle.lines.specs.Lines.{row_text, rows_text};
 
 use std::fmt;
@@ -28,6 +28,7 @@ pub struct Rows<'a> {
     pub width: usize,
     pub height: usize,
     pub picture: &'a [u8],
+    ghost wide: { 0 < width },
     ghost within: { width * height ≤ length picture.now },
 }
 
@@ -35,9 +36,8 @@ impl fmt::Display for Rows<'_> {
     ghost output = { λ r. Some (rows_text r.width r.height r.picture.now) };
 
     fn fmt<W: fmt::Write>(&self, f: &mut fmt::Formatter<W>) -> fmt::Result {
-        for row in 0..self.height {
-            let start = row * self.width;
-            writeln!(f, "{}", Row(&self.picture[start..start + self.width]))?;
+        for row in self.picture.chunks_exact(self.width).take(self.height) {
+            writeln!(f, "{}", Row(row))?;
         }
         Ok(())
     }
