@@ -8,13 +8,13 @@ abbrev pub newline : List ℕ
 newline = 10 ∷ []
 
 -- `at` and the record number, where the reader added one
-abbrev pub added_record : Option ℕ → List ℕ
-added_record None = []
-added_record (Some n) = codes " at " ++ decimal n
+abbrev pub at_record : Option ℕ → List ℕ
+at_record None = []
+at_record (Some n) = codes " at " ++ decimal n
 
 -- `fault`, layer, number and place, and the record number where there is one
 abbrev pub fault_text : Code → Option ℕ → List ℕ
-fault_text c at = codes "fault " ++ (encode (layer_letter c.layer) ++ (codes " " ++ (decimal c.number ++ (codes " " ++ (decimal c.place ++ added_record at)))))
+fault_text c at = codes "fault " ++ (encode (layer_letter c.layer) ++ (codes " " ++ (decimal c.number ++ (codes " " ++ (decimal c.place ++ at_record at)))))
 
 -- the line of a fault
 abbrev pub fault_line : Code → Option ℕ → List ℕ
