@@ -33,71 +33,73 @@ struct TakenTile<'a> {
     ghost next: { reader.place.next ≡ pixels reader.place.head },
 }
 
-// Seats the picture of a tile, and makes the calls of the records after it.
-fn filter_tile<C: Criterion<Value = u8>>(
-    tile: &TakenTile,
-    criterion: &C,
-    picture: &mut [u8],
-    text: &mut String,
-) -> Result<Bench, Stop>
-    requires judged { C.judgement criterion.now ≡ judged tile.now.reader.place.head }
-    requires picture { picture.old ≡ tile.now.grey.now }
-    requires text { string_bytes text.old ≡ [] }
-    ensures { (ending : Ending) → AfterCalls ending tile.now.records.now tile.now.left
-        tile.now.reader.place.head tile.now.grey.now result picture.new (string_bytes text.new) }
-{
-    let taken = tile.taken;
-    let mut reader = tile.reader;
-    let head = reader.place().head;
-    let mut map = Map::empty();
-    let mut bench = seat_at(taken - 1, head, criterion, &mut map, tile.map, picture)?;
-    make_calls(
-        &mut reader,
-        taken,
-        &tile.records[taken..],
-        tile.left,
-        &mut bench,
-        &map,
-        criterion,
-        picture,
-        text,
-    )?;
-    Ok(bench)
-}
-
-// The same, by the criterion that the tile's head asks for.
-fn filter_by_shape(tile: &TakenTile, picture: &mut [u8], text: &mut String) -> Result<Bench, Stop>
-    requires picture { picture.old ≡ tile.now.grey.now }
-    requires text { string_bytes text.old ≡ [] }
-    ensures { (ending : Ending) → AfterCalls ending tile.now.records.now tile.now.left
-        tile.now.reader.place.head tile.now.grey.now result picture.new (string_bytes text.new) }
-{
-    let head = tile.reader.place().head;
-    let tolerance = head.shape.tolerance(head.limit);
-    match head.shape {
-        Shape::Step => filter_tile(tile, &Step::new(tolerance)?, picture, text),
-        Shape::Tone => filter_tile(tile, &Tone::new(tolerance)?, picture, text),
-        Shape::Turn => filter_tile(tile, &Turn::new(tolerance)?, picture, text),
+impl TakenTile<'_> {
+    // Seats the picture, and makes the calls of the records after it.
+    fn filter<C: Criterion<Value = u8>>(
+        &self,
+        criterion: &C,
+        picture: &mut [u8],
+        text: &mut String,
+    ) -> Result<Bench, Stop>
+        requires judged { C.judgement criterion.now ≡ judged self.now.reader.place.head }
+        requires picture { picture.old ≡ self.now.grey.now }
+        requires text { string_bytes text.old ≡ [] }
+        ensures { (ending : Ending) → AfterCalls ending self.now.records.now self.now.left
+            self.now.reader.place.head self.now.grey.now result picture.new (string_bytes text.new) }
+    {
+        let taken = self.taken;
+        let mut reader = self.reader;
+        let head = reader.place().head;
+        let mut map = Map::empty();
+        let mut bench = seat_at(taken - 1, head, criterion, &mut map, self.map, picture)?;
+        make_calls(
+            &mut reader,
+            taken,
+            &self.records[taken..],
+            self.left,
+            &mut bench,
+            &map,
+            criterion,
+            picture,
+            text,
+        )?;
+        Ok(bench)
     }
-}
 
-// Filters a copy of a tile, and adds the lines of its calls and the ending.
-fn finish_tile<V: View>(heap: Global, tile: &TakenTile, text: &mut String) -> Result<(), Stop>
-    requires { string_bytes text.old ≡ [] }
-    ensures { Ends V.ending tile.now.records.now tile.now.left result (string_bytes text.new) }
-{
-    let mut picture = tile.grey.to_vec(heap)?;
-    let bench = filter_by_shape(tile, &mut picture, text)?;
-    let levels = bench.levels();
-    let done = Done {
-        head: tile.reader.place().head,
-        taken: tile.grey,
-        filtered: &picture,
-        levels,
-        count: bench::finish(bench).strike(),
-    };
-    V::push(text, done)?;
-    Ok(())
+    // The same, by the criterion that the tile's head asks for.
+    fn filter_by_shape(&self, picture: &mut [u8], text: &mut String) -> Result<Bench, Stop>
+        requires picture { picture.old ≡ self.now.grey.now }
+        requires text { string_bytes text.old ≡ [] }
+        ensures { (ending : Ending) → AfterCalls ending self.now.records.now self.now.left
+            self.now.reader.place.head self.now.grey.now result picture.new (string_bytes text.new) }
+    {
+        let head = self.reader.place().head;
+        let tolerance = head.shape.tolerance(head.limit);
+        match head.shape {
+            Shape::Step => self.filter(&Step::new(tolerance)?, picture, text),
+            Shape::Tone => self.filter(&Tone::new(tolerance)?, picture, text),
+            Shape::Turn => self.filter(&Turn::new(tolerance)?, picture, text),
+        }
+    }
+
+    // Filters a copy of the tile, and adds the lines of its calls and the ending.
+    fn finish<V: View>(&self, heap: Global, text: &mut String) -> Result<(), Stop>
+        requires { string_bytes text.old ≡ [] }
+        ensures { Ends V.ending self.now.records.now self.now.left result (string_bytes text.new) }
+    {
+        let mut picture = self.grey.to_vec(heap)?;
+        let bench = self.filter_by_shape(&mut picture, text)?;
+        let levels = bench.levels();
+        let done = Done {
+            head: self.reader.place().head,
+            taken: self.grey,
+            filtered: &picture,
+            levels,
+            count: bench::finish(bench).strike(),
+        };
+        V::push(text, done)?;
+        Ok(())
+    }
 }
 
 // Does a job, and adds what it prints to the text, all but the line of a fault.
@@ -120,7 +122,7 @@ fn run<V: View>(heap: Global, job: &[u8], text: &mut String) -> Result<(), Stop>
         map: &map[..count],
         grey: &picture[..count],
     };
-    finish_tile::<V>(heap, &tile, text)
+    tile.finish::<V>(heap, text)
 }
 
 // What a job prints in this view: every byte string is a job.
