@@ -1,5 +1,6 @@
 -- What a reading that no fault ended leaves. Assumes nothing.
 use Rattle.std.proofs.Common.{◌≡◌, ℕ, ◌+◌, ◌<◌, true, not, List, [], ◌∷◌, ◌/◌, ◌%◌, length, replicate, is_some, None, Some, Option, sym, refl, ap, ◌∙◌, true≢false}
+use Rattle.std.proofs.lemmas.Option.{none-some}
 use Rattle.std.specs.Simd.{first_chunks}
 use Rattle.maps.specs.Checks.{first_fault}
 use Rattle.maps.specs.Tiles.{is_tile}
@@ -12,13 +13,13 @@ use Rattle.job.specs.declared.place.State.TheVariants as state
 use Rattle.job.specs.declared.place.Place.{Place}
 use Rattle.job.specs.Bounds.{head_sound}
 use Rattle.job.specs.Reading.{Progress, Reading, head_checks, passes, done, progress, record_fault, reached, next_reading, read_on, reading_from}
-use Rattle.job.proofs.Checking.{none≢some, first_passes}
+use Rattle.job.proofs.Checking.{first_passes}
 
 -- a reading that no fault ends goes on past each record
 onward : (o : Option ReaderFault) (s : Progress) (rest : Progress → Reading) (end : Progress) →
     (rest s ≡ record { fault = None; left = end } → done end.place.state ≡ true) → next_reading o s rest ≡ record { fault = None; left = end } → done end.place.state ≡ true
 onward None s rest end more e = more e
-onward (Some f) s rest end more e = absurd (none≢some (sym (ap (λ (r : Reading). r.fault) e)))
+onward (Some f) s rest end more e = absurd (none-some f (sym (ap (λ (r : Reading). r.fault) e)))
 
 -- all pixels are read then
 ends_done : (n : ℕ) (records : List (List ℕ)) (left : ℕ) (s end : Progress) → read_on n records left s ≡ record { fault = None; left = end } → done end.place.state ≡ true
