@@ -14,7 +14,8 @@ use Rattle.job.specs.declared.records.Record.{Record}
 use Rattle.job.specs.declared.records.Record.TheVariants as sound
 use Rattle.job.specs.declared.place.State.TheVariants as state
 use Rattle.job.specs.declared.place.Place.{Place}
-use Rattle.job.specs.Lines.{rows_text, empty_note, count_text}
+use Rattle.lines.specs.Lines.{rows_text}
+use Rattle.job.specs.Lines.{empty_note, count_text}
 use Rattle.job.specs.Reading.{Progress, start, taken, progress, progress_after, outcome, read_on, reading_from, head_admits, lay_checks}
 use Rattle.job.specs.Texts.{fresh, reading_text, job_text}
 use Rattle.job.specs.Encoding.{encoded, head, pixel, call}

@@ -8,7 +8,8 @@ use Rattle.job.specs.declared.records.Head.{Head}
 use Rattle.job.specs.declared.records.Record.TheVariants as sound
 use Rattle.job.specs.Reading.{head_checks, head_admits}
 use Rattle.job.specs.Encoding.{encoded}
-use Rattle.job.specs.Lines.{rows_text, empty_note, count_text}
+use Rattle.lines.specs.Lines.{rows_text}
+use Rattle.job.specs.Lines.{empty_note, count_text}
 use Rattle.job.specs.Texts.{job_text}
 
 -- A head, a map byte and a grey byte for each pixel, and calls, each an operation and a size.

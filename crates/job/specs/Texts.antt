@@ -3,7 +3,8 @@ use Rattle.std.specs.Prelude.{ℕ, cond, List, ◌++◌, replicate, Some, None, 
 use Rattle.job.specs.declared.fault.ReaderFault.{ReaderFault}
 use Rattle.job.specs.declared.place.Place.{Place}
 use Rattle.job.specs.Reading.{Progress, Reading, start, reading_from}
-use Rattle.job.specs.Lines.{line_of_fault, rows_text, empty_note, count_text, not_made}
+use Rattle.lines.specs.Lines.{rows_text}
+use Rattle.job.specs.Lines.{line_of_fault, empty_note, count_text, not_made}
 
 -- buffers of 4,096 zeros, and no record read
 abbrev pub fresh : Progress

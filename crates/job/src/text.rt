@@ -1,155 +1,58 @@
 // The text that a job prints.
-ghost use Rattle.std.specs.Prelude.{◌≡◌, ◌*◌, ◌≤◌, ◌++◌, length, IfOk, string_bytes, codes, decimal};
-ghost use Rattle.job.specs.Lines.{Appends, newline, fault_text, line_of_fault, spaced, row_text, rows_text, empty_note, count_text, not_made};
+ghost use Rattle.std.specs.Prelude.{◌≡◌, ◌<◌, length, IfOk, Some, string_bytes};
+ghost use Rattle.job.specs.Lines.{not_made};
 ghost use Rattle.job.specs.Texts.{sound_text, fault_ending, job_text};
 
 use crate::fault::ReaderFault;
 use crate::place::Place;
 use crate::state::Reader;
+use lines::{FaultText, Rows};
 use std::alloc::{AllocError, Global};
+use std::fmt;
 
-// The line of a fault that the reader found.
-fn own_fault_line(
-    heap: Global,
-    letter: char,
-    number: u8,
-    place: usize,
-) -> Result<String, AllocError>
-    ensures { IfOk result (λ text. string_bytes text ≡ fault_text letter number place newline) }
-{
-    format!(in heap; "fault {letter} {number} {place}\n")
-}
+// How many calls were not made, as a line, where there were any.
+#[derive(Clone, Copy)]
+struct NotMade(usize);
 
-// The line of a fault from below, with the record number that the reader adds.
-fn fault_line_at(
-    heap: Global,
-    letter: char,
-    number: u8,
-    place: usize,
-    at: usize,
-) -> Result<String, AllocError>
-    ensures { IfOk result (λ text. string_bytes text ≡ fault_text letter number place (codes " at " ++ (decimal at ++ newline))) }
-{
-    format!(in heap; "fault {letter} {number} {place} at {at}\n")
-}
+impl fmt::Display for NotMade {
+    ghost output = { λ n. Some (not_made n.0) };
 
-// The line of a fault.
-fn fault_line(heap: Global, fault: ReaderFault) -> Result<String, AllocError>
-    ensures { IfOk result (λ text. string_bytes text ≡ line_of_fault fault) }
-{
-    let code = fault.code();
-    let letter = code.layer.letter();
-    match fault.added_record() {
-        Some(at) => fault_line_at(heap, letter, code.number, code.place, at),
-        None => own_fault_line(heap, letter, code.number, code.place),
+    fn fmt<W: fmt::Write>(&self, f: &mut fmt::Formatter<W>) -> fmt::Result {
+        let calls = self.0;
+        if calls == 0 {
+            return Ok(());
+        }
+        writeln!(f, "calls not made: {calls}")
     }
-}
-
-fn count_line(heap: Global, calls: usize) -> Result<String, AllocError>
-    ensures { IfOk result (λ text. string_bytes text ≡ count_text calls) }
-{
-    format!(in heap; "calls not made: {calls}\n")
-}
-
-// Says how many calls were not made, where there were any.
-fn not_made_line(heap: Global, calls: usize) -> Result<String, AllocError>
-    ensures { IfOk result (λ text. string_bytes text ≡ not_made calls) }
-{
-    if calls == 0 {
-        Ok(String::new(heap))
-    } else {
-        count_line(heap, calls)
-    }
-}
-
-fn spaced_field(heap: Global, value: u8) -> Result<String, AllocError>
-    ensures { IfOk result (λ text. string_bytes text ≡ codes " " ++ decimal value) }
-{
-    format!(in heap; " {value}")
-}
-
-// Adds values with a space before each.
-fn push_spaced(heap: Global, text: &mut String, values: &[u8]) -> Result<(), AllocError>
-    ensures { Appends (string_bytes text.old) (spaced values.now) (string_bytes text.new) result }
-{
-    for value in values {
-        let field = spaced_field(heap, *value)?;
-        text.push_str(&field)?;
-    }
-    Ok(())
-}
-
-// Adds a row of values, parted by one space.
-fn push_fields(heap: Global, text: &mut String, row: &[u8]) -> Result<(), AllocError>
-    ensures { Appends (string_bytes text.old) (row_text row.now) (string_bytes text.new) result }
-{
-    let Some((first, others)) = row.split_first() else {
-        return Ok(());
-    };
-    let field = format!(in heap; "{first}")?;
-    text.push_str(&field)?;
-    push_spaced(heap, text, others)?;
-    Ok(())
-}
-
-// Adds a row of values as a line.
-fn push_row(heap: Global, text: &mut String, row: &[u8]) -> Result<(), AllocError>
-    ensures { Appends (string_bytes text.old) (row_text row.now ++ newline) (string_bytes text.new) result }
-{
-    push_fields(heap, text, row)?;
-    text.push('\n')?;
-    Ok(())
-}
-
-// Adds the rows of a picture.
-fn push_rows(
-    heap: Global,
-    text: &mut String,
-    width: usize,
-    height: usize,
-    picture: &[u8],
-) -> Result<(), AllocError>
-    requires { width * height ≤ length picture.now }
-    ensures { Appends (string_bytes text.old) (rows_text width height picture.now) (string_bytes text.new) result }
-{
-    let mut rest = picture;
-    for _ in 0..height {
-        let (row, below) = rest.split_at(width);
-        push_row(heap, text, row)?;
-        rest = below;
-    }
-    Ok(())
 }
 
 // The text of a sound job.
 fn sound_report(heap: Global, reader: Reader, picture: &[u8]) -> Result<String, AllocError>
-    requires { length picture.now ≡ 4096 }
+    requires picture { length picture.now ≡ 4096 }
+    requires wide { 0 < reader.place.head.width }
     ensures { IfOk result (λ text. string_bytes text ≡ sound_text reader.place picture.now) }
 {
     let place = reader.place;
     if place.calls != 0 {
-        return count_line(heap, place.calls);
+        return NotMade(place.calls).to_string(heap);
     }
-    let mut text = String::new(heap);
-    push_rows(
-        heap,
-        &mut text,
-        place.head.width as usize,
-        place.head.height as usize,
+    let rows = Rows {
+        width: usize::from(place.head.width),
+        height: usize::from(place.head.height),
         picture,
-    )?;
-    text.push_str("note 0 0 0 0\n")?;
-    Ok(text)
+    };
+    format!(in heap; "{rows}note 0 0 0 0\n")
 }
 
 // The text of a job that a fault ends.
 fn fault_report(heap: Global, place: Place, fault: ReaderFault) -> Result<String, AllocError>
     ensures { IfOk result (λ text. string_bytes text ≡ fault_ending fault place) }
 {
-    let mut text = not_made_line(heap, place.calls)?;
-    let line = fault_line(heap, fault)?;
-    text.push_str(&line)?;
-    Ok(text)
+    let fault = FaultText {
+        code: fault.code(),
+        at: fault.added_record(),
+    };
+    format!(in heap; "{}{fault}\n", NotMade(place.calls))
 }
 
 // What a job prints: every byte string is a job. The text, or an error where memory is wanting.

@@ -1,5 +1,5 @@
 -- What the work on a job comes to. Assumes nothing.
-use Rattle.std.proofs.Common.{◌≡◌, ℕ, ◌+◌, ◌-◌, List, [], ◌++◌, length, take, drop, pos, Some, None, Ok, Err, sym, refl, ap, ◌∙◌, subst, append_assoc, append-nil, arith, length-append, length-drop, take-append-drop, length-take-le, take_all}
+use Rattle.std.proofs.Common.{◌≡◌, ℕ, ◌+◌, ◌-◌, List, [], ◌++◌, length, take, drop, pos, Some, None, Ok, Err, Result, sym, refl, ap, ◌∙◌, subst, append_assoc, append-nil, arith, length-append, length-drop, take-append-drop, length-take-le, take_all}
 use Rattle.criteria.specs.Criteria.{Judgement}
 use Rattle.criteria.specs.declared.fault.MapFault.TheVariants.{Inadmissible}
 use Rattle.maps.specs.declared.map.Map.{Map}
@@ -76,7 +76,7 @@ module _ (records : List (List ℕ)) (n left : ℕ) (h : Head) (values grey : Li
           omega arith
 
     -- the job is done
-    pub finished : (next : ℕ) (c : Bench) (picture old new : List ℕ) (u : Unit {0}) → old ≡ [] →
+    finished : (next : ℕ) (c : Bench) (picture old new : List ℕ) (u : Unit {0}) → old ≡ [] →
         Went (grey_setting (judged h) on) n next (drop n records) left (standing b grey) old (Ok u) (standing c picture) new →
         Filters records left h grey c picture new
     finished next c picture old new u none (P, e) = record {
@@ -92,7 +92,7 @@ module _ (records : List (List ℕ)) (n left : ℕ) (h : Head) (values grey : Li
     }
 
     -- or it is broken off
-    pub stopped : (ending : Ending) (next : ℕ) (c : Bench) (picture old new : List ℕ) (e : Stop) → old ≡ [] → next ≡ pixels h →
+    stopped : (ending : Ending) (next : ℕ) (c : Bench) (picture old new : List ℕ) (e : Stop) → old ≡ [] → next ≡ pixels h →
         Went (grey_setting (judged h) on) n next (drop n records) left (standing b grey) old (Err e) (standing c picture) new →
         AfterCalls ending records left h grey (Err e) picture new
     stopped ending next c picture old new (Fault f) none here B =
@@ -101,6 +101,36 @@ module _ (records : List (List ℕ)) (n left : ℕ) (h : Head) (values grey : Li
         let bad = subst (λ k. Bad k state.Calls (pixels h) B.rest left f) (count_of none P) (subst (λ k. Bad (n + length B.front) state.Calls k B.rest left f) here B.bad) in
         broken_off (in_calls job (sound_of P.calls) bad (whole_of none P B.rest B.cut)) (made_of none P) (ap (λ t. t ++ line_of_fault f) (lines_of none P))
     stopped ending next c picture old new (Memory e) none here B = tt
+
+  -- a call list's answer with the bench that it left
+  abbrev pub with_bench : Bench → Result (Unit {0}) Stop → Result Bench Stop
+  with_bench c (Ok u) = Ok c
+  with_bench c (Err e) = Err e
+
+  -- what the calls come to, once the picture is seated
+  pub after_calls : (ending : Ending) (j : Judgement ℕ) (picture : List ℕ) (rest : List (List ℕ)) (on : Map ℕ) (b c : Bench) (filtered old new : List ℕ) (next : ℕ) (r : Result (Unit {0}) Stop) →
+      j ≡ judged h → picture ≡ grey → rest ≡ drop n records → old ≡ [] → next ≡ pixels h →
+      window_of on ≡ window values h.width h.height h.joining → Seated (grey_setting j on) picture b → FirstNot j.admits values None →
+      Went (grey_setting j on) n next rest left (standing b picture) old r (standing c filtered) new →
+      AfterCalls ending records left h grey (with_bench c r) filtered new
+  after_calls ending j picture rest on b c filtered old new next r e p q none here shows seated admitted went = ends r went_on
+    where
+      seated_on : Seated (grey_setting (judged h) on) grey b
+      seated_on = subst (λ xs. Seated (grey_setting (judged h) on) xs b) p (subst (λ k. Seated (grey_setting k on) picture b) e seated)
+
+      admitted_on : FirstNot (judged h).admits values None
+      admitted_on = subst (λ (k : Judgement ℕ). FirstNot k.admits values None) e admitted
+
+      went_on : Went (grey_setting (judged h) on) n next (drop n records) left (standing b grey) old r (standing c filtered) new
+      went_on =
+          subst (λ rs. Went (grey_setting (judged h) on) n next rs left (standing b grey) old r (standing c filtered) new) q
+          (subst (λ xs. Went (grey_setting (judged h) on) n next rest left (standing b xs) old r (standing c filtered) new) p
+          (subst (λ k. Went (grey_setting k on) n next rest left (standing b picture) old r (standing c filtered) new) e went))
+
+      ends : (r : Result (Unit {0}) Stop) → Went (grey_setting (judged h) on) n next (drop n records) left (standing b grey) old r (standing c filtered) new →
+          AfterCalls ending records left h grey (with_bench c r) filtered new
+      ends (Ok u) w = finished on shows b seated_on admitted_on next c filtered old new u none w
+      ends (Err f) w = stopped on shows b seated_on admitted_on ending next c filtered old new f none here w
 
 -- a fault before the tile is whole
 pub unread : (ending : Ending) (records rs : List (List ℕ)) (left k : ℕ) (f : ReaderFault) (text : List ℕ) → records ≡ rs → left ≡ k → text ≡ [] →

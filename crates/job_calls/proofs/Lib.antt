@@ -1,4 +1,3 @@
-pub mod Texts
 pub mod Tiles
 pub mod Calling
 pub mod Seats

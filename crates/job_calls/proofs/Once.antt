@@ -1,5 +1,5 @@
 -- No bytes print two texts. Assumes nothing.
-use Rattle.std.proofs.Common.{◌≡◌, ℕ, ◌*◌, List, [], ◌∷◌, ◌++◌, map, pos, Some, None, Ok, Err, Option, sym, refl, ap, ◌∙◌, subst, arith}
+use Rattle.std.proofs.Common.{◌≡◌, ℕ, ◌*◌, List, [], ◌∷◌, ◌++◌, map, pos, Some, None, Ok, Err, Option, sym, refl, ap, ◌∙◌, subst}
 use Rattle.scales.specs.Grey as scales
 use Rattle.maps.specs.Windows.{Window}
 use Rattle.maps.specs.Grounds as grounds
@@ -37,8 +37,8 @@ tallied_once (accepts {a = x} {t = t} e more) (accepts e' more') =
       calls_same = ap (λ cs. x.call ∷ cs) rest.calls_same;
       tally_same = rest.tally_same;
     }
-tallied_once (accepts e more) (refuses e' more') = let z : ◌≡◌ {A = ℕ} 0 1 = cc in absurd (omega arith)
-tallied_once (refuses e more) (accepts e' more') = let z : ◌≡◌ {A = ℕ} 0 1 = cc in absurd (omega arith)
+tallied_once (accepts e more) (refuses e' more') = absurd cc
+tallied_once (refuses e more) (accepts e' more') = absurd cc
 tallied_once (refuses {f = f} {answers = xs} e more) (refuses {f = f'} e' more') =
     let rest = tallied_once more more' in
     let same : f ≡ f' = cc in

@@ -266,8 +266,8 @@ module _ (records : List (List ℕ)) (left : ℕ) where
   module _ (j : Job) (s : Sound j) (bs : List ℕ) (rs : List (List ℕ)) (e : records ≡ records_of j ++ (bs ∷ rs))
       (later : (k : Job) → Sound k → records ≡ records_of k ++ rs → SomeOutcome) where
     a_call : (r : Record) → Comes state.Calls r → bs ≡ encoded (pixels j.head) r → SomeOutcome
-    a_call (sound.Head h) (head z p) w = let no_way : ◌≡◌ {A = ℕ} 0 1 = cc in absurd (omega arith)
-    a_call (sound.Pixel v y) (pixel z) w = let no_way : ◌≡◌ {A = ℕ} 0 1 = cc in absurd (omega arith)
+    a_call (sound.Head h) (head z p) w = absurd cc
+    a_call (sound.Pixel v y) (pixel z) w = absurd cc
     a_call (sound.Call o k) (call z) w =
         let c : Call = record { operation = o; size = k } in
         let front = tile_records j.head j.map j.grey in
@@ -316,7 +316,7 @@ module _ (records : List (List ℕ)) (left : ℕ) where
         seated (Some i) f = (stopped None _, to_stop (at_seat h m' g' rs whole_tile (subst (FirstNot (judged h).admits m') f (first_not_is (judged h).admits m')) r))
 
     a_pixel : (r : Record) → Comes state.Pixels r → bs ≡ encoded (length m) r → SomeOutcome
-    a_pixel (sound.Head k) (head z p) w = let no_way : ◌≡◌ {A = ℕ} 0 1 = cc in absurd (omega arith)
+    a_pixel (sound.Head k) (head z p) w = absurd cc
     a_pixel (sound.Pixel v y) (pixel z) w =
         let a = length-append m (v ∷ []) in
         let b = length-append g (y ∷ []) in
@@ -324,7 +324,7 @@ module _ (records : List (List ℕ)) (left : ℕ) where
         a_pixel_more (m ++ (v ∷ [])) (g ++ (y ∷ [])) (omega arith) a
         (e ∙ ap (λ x. front ++ (x ∷ rs)) w ∙ sym (append_snoc front (encoded (length m) (sound.Pixel v y)) rs) ∙ ap (λ xs. xs ++ rs) (sym (tile_more h m g v y (length m) refl same)))
         (eqb (length m + 1) (pixels h)) refl
-    a_pixel (sound.Call o k) (call z) w = let no_way : ◌≡◌ {A = ℕ} 0 1 = cc in absurd (omega arith)
+    a_pixel (sound.Call o k) (call z) w = absurd cc
 
     next_pixel : Eight bs → (t : Result Record ReaderFault) → taken (length (tile_records h m g)) state.Pixels (length m) bs ≡ t → SomeOutcome
     next_pixel eight (Err f) q = (stopped None f, to_stop (in_tile (some_pixels h m g passes same less) (by_record q) e))
@@ -342,8 +342,8 @@ module _ (records : List (List ℕ)) (left : ℕ) where
   module _ (bs : List ℕ) (rs : List (List ℕ)) (more : AllEight rs) (e : records ≡ bs ∷ rs) where
     a_head : (r : Record) → Comes state.Head r → bs ≡ encoded 0 r → SomeOutcome
     a_head (sound.Head h) (head z passes) w = exists_tile rs h [] [] passes refl (some_pixel h passes) more (e ∙ ap (λ x. x ∷ rs) w)
-    a_head (sound.Pixel v y) (pixel z) w = let no_way : ◌≡◌ {A = ℕ} 0 1 = cc in absurd (omega arith)
-    a_head (sound.Call o k) (call z) w = let no_way : ◌≡◌ {A = ℕ} 0 1 = cc in absurd (omega arith)
+    a_head (sound.Pixel v y) (pixel z) w = absurd cc
+    a_head (sound.Call o k) (call z) w = absurd cc
 
     first_record : Eight bs → (t : Result Record ReaderFault) → taken 0 state.Head 0 bs ≡ t → SomeOutcome
     first_record eight (Err f) q = (stopped None f, to_stop (in_tile no_head (by_record q) e))

@@ -8,12 +8,11 @@ use Rattle.bench.specs.Settings.{Standing}
 use Rattle.bench.specs.Calls.{Answer}
 use Rattle.records.specs.declared.fault.ReaderFault.{ReaderFault}
 use Rattle.records.specs.declared.records.Head.{Head}
-use Rattle.job_calls.specs.declared.view.View.{View}
-use Rattle.job_calls.specs.declared.view.View.TheVariants.{Rows, Inclusions}
+use Rattle.lines.specs.Lines.{rows_text}
 use Rattle.job_calls.specs.Jobs.{Job, records_of, Sound}
 use Rattle.job_calls.specs.Stops.{Stops}
 use Rattle.job_calls.specs.Made.{Made}
-use Rattle.job_calls.specs.Lines.{line_of_fault, rows_text, call_lines, note_line, differing, inclusions_text}
+use Rattle.job_calls.specs.Lines.{line_of_fault, call_lines, note_line, differing, inclusions_text}
 
 -- what is printed once all calls are made: from the head, the picture as taken and as filtered, the levels and the accepted count
 abbrev pub Ending : Type 0
@@ -53,8 +52,3 @@ rows_and_note h taken filtered levels count = rows_text h.width h.height filtere
 -- the residue of the tile as taken over the tile as filtered, and how many pixels differ
 abbrev pub inclusions : Ending
 inclusions h taken filtered levels count = inclusions_text (gap_sum grey_gap taken filtered) (differing taken filtered)
-
--- the ending that each view has
-abbrev pub ending_of : View → Ending
-ending_of Rows = rows_and_note
-ending_of Inclusions = inclusions

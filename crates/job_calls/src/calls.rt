@@ -10,14 +10,14 @@ ghost use Rattle.job_calls.specs.Made.{asked, grey_setting};
 ghost use Rattle.job_calls.specs.Lines.{number_of_answer};
 ghost use Rattle.job_calls.specs.Calling.{Tried, Went};
 
-use crate::lines::push_call;
+use crate::call_line::CallLine;
 use crate::stop::Stop;
 use bench::{Bench, BenchFault};
 use criteria::Criterion;
 use maps::Map;
 use morphology::Operation;
 use records::{Reader, ReaderFault, Record};
-use std::alloc::{AllocError, Global};
+use std::alloc::AllocError;
 
 // Takes a C.
 fn take_call(
@@ -68,7 +68,6 @@ fn answer_number(answer: Result<i8, BenchFault>) -> u8
 
 // Takes a C, makes its call and adds its line.
 fn make_call<C: Criterion<Value = u8>>(
-    heap: Global,
     reader: &mut Reader,
     number: usize,
     bytes: &[u8; 8],
@@ -88,13 +87,18 @@ fn make_call<C: Criterion<Value = u8>>(
     let (operation, size) = take_call(reader, number, bytes)?;
     let answer = filter(operation, size, bench, map, criterion, picture);
     let level = bench.levels().present;
-    push_call(heap, text, operation, size, answer_number(answer), level)?;
+    let line = CallLine {
+        operation,
+        size,
+        number: answer_number(answer),
+        level,
+    };
+    write!(text, "{line}")?;
     Ok(())
 }
 
 // Makes the calls of the records from number `first` on, until the end, which has so many bytes left over.
 pub(crate) fn make_calls<C: Criterion<Value = u8>>(
-    heap: Global,
     reader: &mut Reader,
     first: usize,
     records: &[[u8; 8]],
@@ -115,7 +119,6 @@ pub(crate) fn make_calls<C: Criterion<Value = u8>>(
 {
     for (index, bytes) in records.iter().enumerate() {
         make_call(
-            heap,
             reader,
             first + index,
             bytes,

@@ -1,8 +1,9 @@
 // Jobs: the reading of their records, the calls that they ask for, and the text that they print.
 #![tactic(auto)]
 
+mod call_line;
 mod calls;
-mod lines;
+mod note_line;
 mod reporting;
 mod seating;
 mod stop;

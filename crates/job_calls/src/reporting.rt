@@ -1,162 +1,111 @@
 // What a job prints.
-ghost use Rattle.std.specs.Prelude.{◌≡◌, ◌*◌, ◌<◌, ◌≤◌, [], length, IfOk, string_bytes};
+ghost use Rattle.std.specs.Prelude.{◌≡◌, [], IfOk, string_bytes};
 ghost use Rattle.records.specs.Reading.{judged};
 ghost use Rattle.records.specs.declared.place.State.TheVariants as state;
 ghost use Rattle.job_calls.specs.Ends.{Taken, AfterCalls, Ends};
 ghost use Rattle.job_calls.specs.Jobs.{pixels};
-ghost use Rattle.job_calls.specs.Lines.{Appends};
-ghost use Rattle.job_calls.specs.Prints.{Ending, records_in, left_over, Printed, rows_and_note, inclusions, ending_of};
+ghost use Rattle.job_calls.specs.Prints.{Ending, records_in, left_over, Printed, rows_and_note, inclusions};
 
 use crate::calls::make_calls;
-use crate::lines::{fault_line, push_inclusions, push_rows_and_note};
 use crate::seating::seat_at;
 use crate::stop::Stop;
 use crate::tile::read_tile;
-use crate::view::View;
+use crate::view::{Done, Inclusions, RowsAndNote, View};
 use bench::Bench;
 use criteria::{Criterion, Step, Tone, Turn};
+use lines::FaultText;
 use maps::Map;
-use records::{Head, Reader, Shape};
+use records::{Reader, Shape};
 use std::alloc::{AllocError, Global};
 
-// Seats the picture of a tile that was taken, and makes the calls of the records after it.
-fn filter_tile<C: Criterion<Value = u8>>(
-    heap: Global,
-    criterion: &C,
-    reader: &mut Reader,
+// A tile that was taken from the front of a job: the reader after it, the job's records and how many of them are the tile's, the
+// bytes left over after all records, and the tile's map bytes and grey bytes.
+#[derive(Clone, Copy)]
+struct TakenTile<'a> {
+    reader: Reader,
+    records: &'a [[u8; 8]],
     taken: usize,
-    records: &[[u8; 8]],
     left: usize,
-    values: &[u8],
-    picture: &mut [u8],
-    text: &mut String,
-) -> Result<Bench, Stop>
-    requires taken { Taken records.now taken reader.old.place.head values.now picture.old }
-    requires state { reader.old.place.state ≡ state.Calls }
-    requires next { reader.old.place.next ≡ pixels reader.old.place.head }
-    requires judged { C.judgement criterion.now ≡ judged reader.old.place.head }
-    requires text { string_bytes text.old ≡ [] }
-    ensures { (ending : Ending) → AfterCalls ending records.now left reader.old.place.head picture.old
-        result picture.new (string_bytes text.new) }
-{
-    let head = reader.place().head;
-    let mut map = Map::empty();
-    let mut bench = seat_at(taken - 1, head, criterion, &mut map, values, picture)?;
-    make_calls(
-        heap,
-        reader,
-        taken,
-        &records[taken..],
-        left,
-        &mut bench,
-        &map,
-        criterion,
-        picture,
-        text,
-    )?;
-    Ok(bench)
+    map: &'a [u8],
+    grey: &'a [u8],
+    ghost tile: { Taken records.now taken reader.place.head map.now grey.now },
+    ghost calls: { reader.place.state ≡ state.Calls },
+    ghost next: { reader.place.next ≡ pixels reader.place.head },
 }
 
-// Adds what is printed once all calls are made.
-fn push_ending(
-    heap: Global,
-    view: View,
-    head: Head,
-    bench: Bench,
-    taken: &[u8],
-    filtered: &[u8],
-    text: &mut String,
-) -> Result<(), AllocError>
-    requires rows { head.width * head.height ≤ length filtered.now }
-    requires counts { (length taken.now ≡ length filtered.now) × (0 < length taken.now) × (length taken.now ≤ 4096) }
-    ensures { Appends (string_bytes text.old)
-        (ending_of view head taken.now filtered.now bench.book.levels bench.book.count) (string_bytes text.new) result }
-{
-    let levels = bench.levels();
-    let count = bench::finish(bench).strike();
-    match view {
-        View::Rows => push_rows_and_note(heap, text, head, filtered, levels, count),
-        View::Inclusions => push_inclusions(heap, text, taken, filtered),
+impl TakenTile<'_> {
+    // Seats the picture, and makes the calls of the records after it.
+    fn filter<C: Criterion<Value = u8>>(
+        &self,
+        criterion: &C,
+        picture: &mut [u8],
+        text: &mut String,
+    ) -> Result<Bench, Stop>
+        requires judged { C.judgement criterion.now ≡ judged self.now.reader.place.head }
+        requires picture { picture.old ≡ self.now.grey.now }
+        requires text { string_bytes text.old ≡ [] }
+        ensures { (ending : Ending) → AfterCalls ending self.now.records.now self.now.left
+            self.now.reader.place.head self.now.grey.now result picture.new (string_bytes text.new) }
+    {
+        let taken = self.taken;
+        let mut reader = self.reader;
+        let head = reader.place().head;
+        let mut map = Map::empty();
+        let mut bench = seat_at(taken - 1, head, criterion, &mut map, self.map, picture)?;
+        make_calls(
+            &mut reader,
+            taken,
+            &self.records[taken..],
+            self.left,
+            &mut bench,
+            &map,
+            criterion,
+            picture,
+            text,
+        )?;
+        Ok(bench)
     }
-}
 
-// Filters a tile that was taken, and adds the lines of its calls and the ending.
-fn finish_tile<C: Criterion<Value = u8>>(
-    heap: Global,
-    view: View,
-    criterion: &C,
-    reader: &mut Reader,
-    taken: usize,
-    records: &[[u8; 8]],
-    left: usize,
-    values: &[u8],
-    picture: &mut [u8],
-    text: &mut String,
-) -> Result<(), Stop>
-    requires taken { Taken records.now taken reader.old.place.head values.now picture.old }
-    requires state { reader.old.place.state ≡ state.Calls }
-    requires next { reader.old.place.next ≡ pixels reader.old.place.head }
-    requires judged { C.judgement criterion.now ≡ judged reader.old.place.head }
-    requires text { string_bytes text.old ≡ [] }
-    ensures { Ends (ending_of view) records.now left result (string_bytes text.new) }
-{
-    let head = reader.place().head;
-    let mut buffer = [0u8; 4096];
-    let before = &mut buffer[0..picture.len()];
-    before.copy_from_slice(picture);
-    let bench = filter_tile(
-        heap, criterion, reader, taken, records, left, values, picture, text,
-    )?;
-    push_ending(heap, view, head, bench, before, picture, text)?;
-    Ok(())
-}
+    // The same, by the criterion that the tile's head asks for.
+    fn filter_by_shape(&self, picture: &mut [u8], text: &mut String) -> Result<Bench, Stop>
+        requires picture { picture.old ≡ self.now.grey.now }
+        requires text { string_bytes text.old ≡ [] }
+        ensures { (ending : Ending) → AfterCalls ending self.now.records.now self.now.left
+            self.now.reader.place.head self.now.grey.now result picture.new (string_bytes text.new) }
+    {
+        let head = self.reader.place().head;
+        let tolerance = head.shape.tolerance(head.limit);
+        match head.shape {
+            Shape::Step => self.filter(&Step::new(tolerance)?, picture, text),
+            Shape::Tone => self.filter(&Tone::new(tolerance)?, picture, text),
+            Shape::Turn => self.filter(&Turn::new(tolerance)?, picture, text),
+        }
+    }
 
-// Does the job of a tile that was taken, by the criterion that its head asks for.
-fn filter_by_shape(
-    heap: Global,
-    view: View,
-    reader: &mut Reader,
-    taken: usize,
-    records: &[[u8; 8]],
-    left: usize,
-    values: &[u8],
-    picture: &mut [u8],
-    text: &mut String,
-) -> Result<(), Stop>
-    requires taken { Taken records.now taken reader.old.place.head values.now picture.old }
-    requires state { reader.old.place.state ≡ state.Calls }
-    requires next { reader.old.place.next ≡ pixels reader.old.place.head }
-    requires text { string_bytes text.old ≡ [] }
-    ensures { Ends (ending_of view) records.now left result (string_bytes text.new) }
-{
-    let head = reader.place().head;
-    let tolerance = head.shape.tolerance(head.limit);
-    match head.shape {
-        Shape::Step => {
-            let step = Step::new(tolerance)?;
-            finish_tile(
-                heap, view, &step, reader, taken, records, left, values, picture, text,
-            )
-        }
-        Shape::Tone => {
-            let tone = Tone::new(tolerance)?;
-            finish_tile(
-                heap, view, &tone, reader, taken, records, left, values, picture, text,
-            )
-        }
-        Shape::Turn => {
-            let turn = Turn::new(tolerance)?;
-            finish_tile(
-                heap, view, &turn, reader, taken, records, left, values, picture, text,
-            )
-        }
+    // Filters a copy of the tile, and adds the lines of its calls and the ending.
+    fn finish<V: View>(&self, heap: Global, text: &mut String) -> Result<(), Stop>
+        requires { string_bytes text.old ≡ [] }
+        ensures { Ends V.ending self.now.records.now self.now.left result (string_bytes text.new) }
+    {
+        let mut picture = self.grey.to_vec(heap)?;
+        let bench = self.filter_by_shape(&mut picture, text)?;
+        let levels = bench.levels();
+        let done = Done {
+            head: self.reader.place().head,
+            taken: self.grey,
+            filtered: &picture,
+            levels,
+            count: bench::finish(bench).strike(),
+        };
+        V::push(text, done)?;
+        Ok(())
     }
 }
 
 // Does a job, and adds what it prints to the text, all but the line of a fault.
-fn run(heap: Global, view: View, job: &[u8], text: &mut String) -> Result<(), Stop>
+fn run<V: View>(heap: Global, job: &[u8], text: &mut String) -> Result<(), Stop>
     requires { string_bytes text.old ≡ [] }
-    ensures { Ends (ending_of view) (records_in job.now) (left_over job.now) result (string_bytes text.new) }
+    ensures { Ends V.ending (records_in job.now) (left_over job.now) result (string_bytes text.new) }
 {
     let mut map = [0u8; 4096];
     let mut picture = [0u8; 4096];
@@ -165,34 +114,33 @@ fn run(heap: Global, view: View, job: &[u8], text: &mut String) -> Result<(), St
     let mut reader = Reader::new();
     let taken = read_tile(&mut reader, records, left, &mut map, &mut picture)?;
     let count = reader.place().count;
-    filter_by_shape(
-        heap,
-        view,
-        &mut reader,
-        taken,
+    let tile = TakenTile {
+        reader,
         records,
+        taken,
         left,
-        &map[0..count],
-        &mut picture[0..count],
-        text,
-    )
+        map: &map[..count],
+        grey: &picture[..count],
+    };
+    tile.finish::<V>(heap, text)
 }
 
 // What a job prints in this view: every byte string is a job.
-fn print(heap: Global, view: View, job: &[u8]) -> Result<String, AllocError>
-    ensures { IfOk result (λ text. Printed (ending_of view) job.now (string_bytes text)) }
+fn print<V: View>(heap: Global, job: &[u8]) -> Result<String, AllocError>
+    ensures { IfOk result (λ text. Printed V.ending job.now (string_bytes text)) }
 {
     let mut text = String::new(heap);
-    let Err(stop) = run(heap, view, job, &mut text) else {
-        return Ok(text);
-    };
-    match stop {
-        Stop::Fault(fault) => {
-            let line = fault_line(heap, fault)?;
-            text.push_str(&line)?;
+    match run::<V>(heap, job, &mut text) {
+        Ok(()) => Ok(text),
+        Err(Stop::Fault(fault)) => {
+            let fault = FaultText {
+                code: fault.code(),
+                at: fault.added_record(),
+            };
+            writeln!(text, "{fault}")?;
             Ok(text)
         }
-        Stop::Memory(error) => Err(error),
+        Err(Stop::Memory(error)) => Err(error),
     }
 }
 
@@ -201,12 +149,12 @@ fn print(heap: Global, view: View, job: &[u8]) -> Result<String, AllocError>
 pub fn report(heap: Global, job: &[u8]) -> Result<String, AllocError>
     ensures { IfOk result (λ text. Printed rows_and_note job.now (string_bytes text)) }
 {
-    print(heap, View::Rows, job)
+    print::<RowsAndNote>(heap, job)
 }
 
 // The same with the residue and the count of pixels that differ in place of rows and note.
 pub fn measure(heap: Global, job: &[u8]) -> Result<String, AllocError>
     ensures { IfOk result (λ text. Printed inclusions job.now (string_bytes text)) }
 {
-    print(heap, View::Inclusions, job)
+    print::<Inclusions>(heap, job)
 }

@@ -2,6 +2,7 @@
 use crate::failure::Failure;
 use bench::{Bench, BenchFault};
 use criteria::{MapFault, Step, Tolerance};
+use lines::FaultText;
 use maps::Map;
 use morphology::Operation;
 use std::io;
@@ -39,11 +40,11 @@ fn print_answer(
     match answer {
         Ok(level) => println!(rt; "{letter} {size}: {level}"),
         Err(fault) => {
-            let code = fault.code();
-            let layer = code.layer.letter();
-            let number = code.number;
-            let place = code.place;
-            println!(rt; "{letter} {size}: fault {layer} {number} {place}")
+            let fault = FaultText {
+                code: fault.code(),
+                at: None,
+            };
+            println!(rt; "{letter} {size}: {fault}")
         }
     }
 }

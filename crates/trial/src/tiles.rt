@@ -1,5 +1,6 @@
 // Which tiles pass.
 use crate::failure::Failure;
+use lines::FaultText;
 use maps::tile_pixels;
 use std::io;
 
@@ -7,11 +8,11 @@ fn try_tile(rt: &impl Print, width: usize, height: usize) -> io::Result<()> {
     match tile_pixels(width, height, 4) {
         Ok(pixels) => println!(rt; "tile {width} {height}: {pixels}"),
         Err(fault) => {
-            let code = fault.code();
-            let letter = code.layer.letter();
-            let number = code.number;
-            let place = code.place;
-            println!(rt; "tile {width} {height}: fault {letter} {number} {place}")
+            let fault = FaultText {
+                code: fault.code(),
+                at: None,
+            };
+            println!(rt; "tile {width} {height}: {fault}")
         }
     }
 }

@@ -1,11 +1,11 @@
-use Rattle.std.proofs.Common.{◌++◌, string_bytes, ap, ◌∙◌}
+use Rattle.std.proofs.Common.{refl}
 use Rattle.job_calls.proofs.Ending.{ended_by}
-use Rattle.job_calls.specs.Prints.{records_in, left_over}
 use Rattle.job_calls.proofs.reporting.print.Goals as goal
 
-pub returns-in_ok-push_str-in-Fault : goal.returns-in_ok-push_str-in-Fault
-returns-in_ok-push_str-in-Fault c =
-    let job = c.args.job.now in
-    let old = string_bytes c.run.new.text in
-    let line = c.in_ok-push_str-in-Fault.ensures.bytes ∙ ap (λ t. old ++ t) (c.deref.ensures ∙ c.in_ok-line-in-Fault.ensures) in
-    ended_by _ (records_in job) (left_over job) old _ c.in-Err.stop c.in-Fault.fault c.in-Err.ensures c.in-Fault.is line
+pub returns-in-Ok : goal.returns-in-Ok
+returns-in-Ok g c = c.in-Ok.ensures
+
+pub returns-in_ok-writeln-in-Err-Fault : goal.returns-in_ok-writeln-in-Err-Fault
+returns-in_ok-writeln-in-Err-Fault g c =
+    let stop = c.in-Err-Fault in
+    rw (c.in_ok-writeln-in-Err-Fault.ensures.bytes, c.code.ensures, c.added_record.ensures) (ended_by _ _ _ _ _ stop.field-0 stop.fault stop.ensures stop.field-0-is refl)

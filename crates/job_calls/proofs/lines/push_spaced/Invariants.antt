@@ -1,6 +1,0 @@
-use Rattle.std.proofs.Common.{◌≡◌, ◌++◌, take, string_bytes}
-use Rattle.job_calls.specs.Lines.{spaced}
-use Rattle.job_calls.proofs.lines.push_spaced.Given as goal
-
-abbrev pub invariant-loop-value : goal.invariant-loop-value
-invariant-loop-value l = string_bytes l.text ≡ string_bytes l.initial.text ++ spaced (take l.value-index l.values)

@@ -1,0 +1,25 @@
+use Rattle.std.proofs.Common.{◌≡◌, ◌++◌, string_bytes, refl, ◌∙◌, arith}
+use Rattle.std.proofs.lemmas.Grind.{common_steps}
+use Rattle.std.proofs.lemmas.Result.{err_from_is_err_and}
+use Rattle.job_calls.proofs.Ending.{left_off, printed}
+use Rattle.job_calls.proofs.reporting.TakenTile.finish.Goals as goal
+
+pub returns-in_err-bench : goal.returns-in_err-bench
+returns-in_err-bench g c =
+    let ending = g.V.View.ending in
+    let t = c.args.self.now in
+    let p = err_from_is_err_and c.from_residual-in_err-bench.result c.from_residual-in_err-bench.ensures.1 in
+    rw (p.1, p.2) (left_off ending t.records.now t.left t.reader.place.head t.grey.now c.filter_by_shape.new.picture (string_bytes c.filter_by_shape.new.text) c.in_err-bench.field-0.0 (c.in_err-bench.ensures ending))
+
+pub returns : goal.returns
+returns g c =
+    let ending = g.V.View.ending in
+    let t = c.args.self.now in
+    let b = c.in_ok-bench.bench in
+    let picture = c.filter_by_shape.new.picture in
+    let one = string_bytes c.filter_by_shape.new.text in
+    let filtered : c.deref.result.now ≡ picture = grind (arith, common_steps) in
+    let line : string_bytes c.push.new.text ≡ one ++ ending t.reader.place.head t.grey.now picture b.levels b.count =
+    c.in_ok-push.ensures ∙ rw (c.place.ensures, filtered, c.levels-levels.ensures, c.strike.ensures, c.finish.ensures.book) refl
+    in
+    printed ending t.records.now t.left t.reader.place.head t.grey.now b picture one _ (c.in_ok-bench.ensures ending) line

@@ -1,0 +1,44 @@
+// The rows of a picture.
+ghost use Rattle.std.specs.Prelude.{◌*◌, ◌<◌, ◌≤◌, length, Some};
+ghost use Rattle.lines.specs.Lines.{row_text, rows_text};
+
+use std::fmt;
+
+// A row of values, parted by one space.
+#[derive(Clone, Copy)]
+struct Row<'a>(&'a [u8]);
+
+impl fmt::Display for Row<'_> {
+    ghost output = { λ r. Some (row_text r.0.now) };
+
+    fn fmt<W: fmt::Write>(&self, f: &mut fmt::Formatter<W>) -> fmt::Result {
+        if let [first, others @ ..] = self.0 {
+            write!(f, "{first}")?;
+            for value in others {
+                write!(f, " {value}")?;
+            }
+        }
+        Ok(())
+    }
+}
+
+// The first rows of a picture, a line each.
+#[derive(Clone, Copy)]
+pub struct Rows<'a> {
+    pub width: usize,
+    pub height: usize,
+    pub picture: &'a [u8],
+    ghost wide: { 0 < width },
+    ghost within: { width * height ≤ length picture.now },
+}
+
+impl fmt::Display for Rows<'_> {
+    ghost output = { λ r. Some (rows_text r.width r.height r.picture.now) };
+
+    fn fmt<W: fmt::Write>(&self, f: &mut fmt::Formatter<W>) -> fmt::Result {
+        for row in self.picture.chunks_exact(self.width).take(self.height) {
+            writeln!(f, "{}", Row(row))?;
+        }
+        Ok(())
+    }
+}
