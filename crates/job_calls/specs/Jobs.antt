@@ -1,13 +1,14 @@
 -- Jobs, and how they lie in records. Assumes nothing.
-use Rattle.std.specs.Prelude.{◌≡◌, ℕ, ◌+◌, ◌*◌, ◌<◌, List, [], ◌∷◌, ◌++◌, length, None}
+use Rattle.std.specs.Prelude.{◌≡◌, ℕ, ◌+◌, ◌<◌, List, [], ◌∷◌, ◌++◌, length, None}
 use Rattle.std.specs.List.{concat}
 use Rattle.maps.specs.Checks.{first_fault}
 use Rattle.maps.specs.Admission.{FirstNot}
 use Rattle.morphology.specs.Calls.{Call}
 use Rattle.records.specs.declared.records.Head.{Head}
 use Rattle.records.specs.declared.records.Record.TheVariants as sound
-use Rattle.records.specs.declared.place.State.{State}
-use Rattle.records.specs.declared.place.State.TheVariants as state
+use Rattle.records.specs.declared.place.Place.{Place}
+use Rattle.records.specs.declared.place.Place.TheVariants as place
+use Rattle.records.specs.Records.{pixels}
 use Rattle.records.specs.Reading.{head_checks, judged}
 use Rattle.records.specs.Encoding.{encoded}
 
@@ -17,10 +18,6 @@ pub record Job : Type 0 where
   pub map : List ℕ
   pub grey : List ℕ
   pub calls : List Call
-
--- how many pixels the tile of a head has
-abbrev pub pixels : Head → ℕ
-pixels h = h.width * h.height
 
 -- a P for each pixel, from number i on
 abbrev pub pixel_records : ℕ → List ℕ → List ℕ → List (List ℕ)
@@ -60,8 +57,8 @@ pub record Sound (j : Job) : Type 0 where
   pub tile : Tile j.head j.map j.grey
   pub admitted : FirstNot (judged j.head).admits j.map None
 
--- The records so far of a tile that is not whole: which record may come next, and which pixel.
-pub data Unfinished : State → ℕ → List (List ℕ) → Type 0 where
-  no_head : Unfinished state.Head 0 []
+-- The records so far of a tile that is not whole, and where they leave the reader.
+pub data Unfinished : Place → List (List ℕ) → Type 0 where
+  no_head : Unfinished place.Head []
   some_pixels : (h : Head) (map grey : List ℕ) → first_fault (head_checks h) ≡ None → length grey ≡ length map → length map < pixels h →
-      Unfinished state.Pixels (length map) (tile_records h map grey)
+      Unfinished (place.Pixels h (length map)) (tile_records h map grey)

@@ -5,7 +5,6 @@ mod calls;
 mod lines;
 mod reporting;
 mod seating;
-mod stop;
 mod theorems;
 mod tile;
 mod view;

@@ -1,29 +1,28 @@
 // What a job prints.
 ghost use Rattle.std.specs.Prelude.{◌≡◌, ◌*◌, ◌<◌, ◌≤◌, [], length, IfOk, string_bytes};
 ghost use Rattle.records.specs.Reading.{judged};
-ghost use Rattle.records.specs.declared.place.State.TheVariants as state;
+ghost use Rattle.records.specs.declared.place.Place.TheVariants as place;
 ghost use Rattle.job_calls.specs.Ends.{Taken, AfterCalls, Ends};
-ghost use Rattle.job_calls.specs.Jobs.{pixels};
 ghost use Rattle.job_calls.specs.Lines.{Appends};
 ghost use Rattle.job_calls.specs.Prints.{Ending, records_in, left_over, Printed, rows_and_note, inclusions, ending_of};
 
 use crate::calls::make_calls;
 use crate::lines::{fault_line, push_inclusions, push_rows_and_note};
 use crate::seating::seat_at;
-use crate::stop::Stop;
 use crate::tile::read_tile;
 use crate::view::View;
-use bench::Bench;
-use criteria::{Criterion, Step, Tone, Turn};
+use bench::{Bench, BenchFault};
+use criteria::Criterion;
 use maps::Map;
-use records::{Head, Reader, Shape};
+use records::{Head, Reader, ReaderFault, Stop, Tile};
 use std::alloc::{AllocError, Global};
 
 // Seats the picture of a tile that was taken, and makes the calls of the records after it.
 fn filter_tile<C: Criterion<Value = u8>>(
     heap: Global,
     criterion: &C,
-    reader: &mut Reader,
+    reader: Reader,
+    head: Head,
     taken: usize,
     records: &[[u8; 8]],
     left: usize,
@@ -31,15 +30,13 @@ fn filter_tile<C: Criterion<Value = u8>>(
     picture: &mut [u8],
     text: &mut String,
 ) -> Result<Bench, Stop>
-    requires taken { Taken records.now taken reader.old.place.head values.now picture.old }
-    requires state { reader.old.place.state ≡ state.Calls }
-    requires next { reader.old.place.next ≡ pixels reader.old.place.head }
-    requires judged { C.judgement criterion.now ≡ judged reader.old.place.head }
+    requires taken { Taken records.now taken head values.now picture.old }
+    requires place { reader.place ≡ place.Calls head }
+    requires judged { C.judgement criterion.now ≡ judged head }
     requires text { string_bytes text.old ≡ [] }
-    ensures { (ending : Ending) → AfterCalls ending records.now left reader.old.place.head picture.old
+    ensures { (ending : Ending) → AfterCalls ending records.now left head picture.old
         result picture.new (string_bytes text.new) }
 {
-    let head = reader.place().head;
     let mut map = Map::empty();
     let mut bench = seat_at(taken - 1, head, criterion, &mut map, values, picture)?;
     make_calls(
@@ -80,12 +77,12 @@ fn push_ending(
     }
 }
 
-// Filters a tile that was taken, and adds the lines of its calls and the ending.
-fn finish_tile<C: Criterion<Value = u8>>(
+// Filters a tile that was taken by the criterion that its head asks for, and adds the lines of its calls and the ending.
+fn finish_tile(
     heap: Global,
     view: View,
-    criterion: &C,
-    reader: &mut Reader,
+    reader: Reader,
+    head: Head,
     taken: usize,
     records: &[[u8; 8]],
     left: usize,
@@ -93,64 +90,22 @@ fn finish_tile<C: Criterion<Value = u8>>(
     picture: &mut [u8],
     text: &mut String,
 ) -> Result<(), Stop>
-    requires taken { Taken records.now taken reader.old.place.head values.now picture.old }
-    requires state { reader.old.place.state ≡ state.Calls }
-    requires next { reader.old.place.next ≡ pixels reader.old.place.head }
-    requires judged { C.judgement criterion.now ≡ judged reader.old.place.head }
+    requires taken { Taken records.now taken head values.now picture.old }
+    requires place { reader.place ≡ place.Calls head }
     requires text { string_bytes text.old ≡ [] }
     ensures { Ends (ending_of view) records.now left result (string_bytes text.new) }
 {
-    let head = reader.place().head;
+    let criterion = head
+        .criterion()
+        .map_err(|fault| ReaderFault::Bench(BenchFault::Map(fault), 0))?;
     let mut buffer = [0u8; 4096];
     let before = &mut buffer[0..picture.len()];
     before.copy_from_slice(picture);
     let bench = filter_tile(
-        heap, criterion, reader, taken, records, left, values, picture, text,
+        heap, &criterion, reader, head, taken, records, left, values, picture, text,
     )?;
     push_ending(heap, view, head, bench, before, picture, text)?;
     Ok(())
-}
-
-// Does the job of a tile that was taken, by the criterion that its head asks for.
-fn filter_by_shape(
-    heap: Global,
-    view: View,
-    reader: &mut Reader,
-    taken: usize,
-    records: &[[u8; 8]],
-    left: usize,
-    values: &[u8],
-    picture: &mut [u8],
-    text: &mut String,
-) -> Result<(), Stop>
-    requires taken { Taken records.now taken reader.old.place.head values.now picture.old }
-    requires state { reader.old.place.state ≡ state.Calls }
-    requires next { reader.old.place.next ≡ pixels reader.old.place.head }
-    requires text { string_bytes text.old ≡ [] }
-    ensures { Ends (ending_of view) records.now left result (string_bytes text.new) }
-{
-    let head = reader.place().head;
-    let tolerance = head.shape.tolerance(head.limit);
-    match head.shape {
-        Shape::Step => {
-            let step = Step::new(tolerance)?;
-            finish_tile(
-                heap, view, &step, reader, taken, records, left, values, picture, text,
-            )
-        }
-        Shape::Tone => {
-            let tone = Tone::new(tolerance)?;
-            finish_tile(
-                heap, view, &tone, reader, taken, records, left, values, picture, text,
-            )
-        }
-        Shape::Turn => {
-            let turn = Turn::new(tolerance)?;
-            finish_tile(
-                heap, view, &turn, reader, taken, records, left, values, picture, text,
-            )
-        }
-    }
 }
 
 // Does a job, and adds what it prints to the text, all but the line of a fault.
@@ -158,22 +113,21 @@ fn run(heap: Global, view: View, job: &[u8], text: &mut String) -> Result<(), St
     requires { string_bytes text.old ≡ [] }
     ensures { Ends (ending_of view) (records_in job.now) (left_over job.now) result (string_bytes text.new) }
 {
-    let mut map = [0u8; 4096];
-    let mut picture = [0u8; 4096];
     let (records, torn) = job.as_chunks::<8>();
     let left = torn.len();
     let mut reader = Reader::new();
-    let taken = read_tile(&mut reader, records, left, &mut map, &mut picture)?;
-    let count = reader.place().count;
-    filter_by_shape(
+    let mut tile = Tile::new(heap);
+    let (head, taken) = read_tile(&mut reader, records, left, &mut tile)?;
+    finish_tile(
         heap,
         view,
-        &mut reader,
+        reader,
+        head,
         taken,
         records,
         left,
-        &map[0..count],
-        &mut picture[0..count],
+        &tile.map,
+        &mut tile.picture,
         text,
     )
 }

@@ -1,13 +1,12 @@
 // What can end a job.
 ghost use Rattle.std.specs.Prelude.{◌≡◌};
-ghost use Rattle.records.specs.declared.fault.ReaderFault.TheVariants.{Bench};
 ghost use Rattle.records.specs.Faults.{reader_code, record_of_fault};
 
 use bench::BenchFault;
 use criteria::{Code, Layer};
 
 // A fault of the reader has the number of its record; one from below travels up whole, and the reader adds the number.
-#[derive(Clone, Copy)]
+#[derive(Clone, Copy, Debug, PartialEq, Eq)]
 pub enum ReaderFault {
     // 1 to 7 bytes remain
     Torn(usize),
@@ -19,14 +18,6 @@ pub enum ReaderFault {
     Filler(usize),
     // found by the bench layer, or below it
     Bench(BenchFault, usize),
-}
-
-impl From<(BenchFault, usize)> for ReaderFault {
-    ghost from_gives = { λ p r. r ≡ Bench p.0 p.1 };
-
-    fn from(fault: (BenchFault, usize)) -> ReaderFault {
-        ReaderFault::Bench(fault.0, fault.1)
-    }
 }
 
 impl ReaderFault {
