@@ -1,6 +1,3 @@
-pub mod Checking
-pub mod Encodings
-pub mod Heads
 pub mod Jobs
 pub mod Readings
 pub mod Texts

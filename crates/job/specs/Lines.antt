@@ -4,8 +4,8 @@ use Rattle.std.proofs.Math.Utf8.{encode}
 use Rattle.std.specs.declared.alloc.AllocError.{AllocError}
 use Rattle.criteria.specs.Faults.{layer_letter}
 use Rattle.criteria.specs.declared.fault.Code.{Code}
-use Rattle.job.specs.declared.fault.ReaderFault.{ReaderFault}
-use Rattle.job.specs.Faults.{reader_code, record_of_fault}
+use Rattle.records.specs.declared.fault.ReaderFault.{ReaderFault}
+use Rattle.records.specs.Faults.{reader_code, record_of_fault}
 
 -- a piece is added to a text, unless memory is wanting
 abbrev pub Appends : List ℕ → List ℕ → List ℕ → Result (Unit {0}) AllocError → Type 0

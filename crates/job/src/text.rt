@@ -1,11 +1,11 @@
 // The text that a job prints.
 ghost use Rattle.std.specs.Prelude.{◌≡◌, ◌*◌, ◌≤◌, ◌++◌, length, IfOk, string_bytes, codes, decimal};
+ghost use Rattle.records.specs.Records.{pixels};
 ghost use Rattle.job.specs.Lines.{Appends, newline, fault_text, line_of_fault, spaced, row_text, rows_text, empty_note, count_text, not_made};
 ghost use Rattle.job.specs.Texts.{sound_text, fault_ending, job_text};
 
-use crate::fault::ReaderFault;
-use crate::place::Place;
-use crate::state::Reader;
+use crate::reading::JobReader;
+use records::{Head, ReaderFault, Stop};
 use std::alloc::{AllocError, Global};
 
 // The line of a fault that the reader found.
@@ -122,20 +122,24 @@ fn push_rows(
 }
 
 // The text of a sound job.
-fn sound_report(heap: Global, reader: Reader, picture: &[u8]) -> Result<String, AllocError>
-    requires { length picture.now ≡ 4096 }
-    ensures { IfOk result (λ text. string_bytes text ≡ sound_text reader.place picture.now) }
+fn sound_report(
+    heap: Global,
+    head: Head,
+    calls: usize,
+    picture: &[u8],
+) -> Result<String, AllocError>
+    requires { length picture.now ≡ pixels head }
+    ensures { IfOk result (λ text. string_bytes text ≡ sound_text head calls picture.now) }
 {
-    let place = reader.place;
-    if place.calls != 0 {
-        return count_line(heap, place.calls);
+    if calls != 0 {
+        return count_line(heap, calls);
     }
     let mut text = String::new(heap);
     push_rows(
         heap,
         &mut text,
-        place.head.width as usize,
-        place.head.height as usize,
+        usize::from(head.width),
+        usize::from(head.height),
         picture,
     )?;
     text.push_str("note 0 0 0 0\n")?;
@@ -143,10 +147,10 @@ fn sound_report(heap: Global, reader: Reader, picture: &[u8]) -> Result<String, 
 }
 
 // The text of a job that a fault ends.
-fn fault_report(heap: Global, place: Place, fault: ReaderFault) -> Result<String, AllocError>
-    ensures { IfOk result (λ text. string_bytes text ≡ fault_ending fault place) }
+fn fault_report(heap: Global, calls: usize, fault: ReaderFault) -> Result<String, AllocError>
+    ensures { IfOk result (λ text. string_bytes text ≡ fault_ending fault calls) }
 {
-    let mut text = not_made_line(heap, place.calls)?;
+    let mut text = not_made_line(heap, calls)?;
     let line = fault_line(heap, fault)?;
     text.push_str(&line)?;
     Ok(text)
@@ -156,11 +160,10 @@ fn fault_report(heap: Global, place: Place, fault: ReaderFault) -> Result<String
 pub fn report(heap: Global, job: &[u8]) -> Result<String, AllocError>
     ensures { IfOk result (λ text. string_bytes text ≡ job_text job.now) }
 {
-    let mut map = [0u8; 4096];
-    let mut picture = [0u8; 4096];
-    let mut reader = Reader::new();
-    match reader.read(job, &mut map, &mut picture) {
-        Ok(()) => sound_report(heap, reader, &picture),
-        Err(fault) => fault_report(heap, reader.place, fault),
+    let mut reader = JobReader::new(heap);
+    match reader.read(job) {
+        Ok(head) => sound_report(heap, head, reader.calls, &reader.tile.picture),
+        Err(Stop::Fault(fault)) => fault_report(heap, reader.calls, fault),
+        Err(Stop::Memory(error)) => Err(error),
     }
 }

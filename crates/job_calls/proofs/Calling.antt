@@ -17,7 +17,7 @@ use Rattle.records.specs.declared.records.Head.{Head}
 use Rattle.records.specs.Reading.{done, ended}
 use Rattle.records.specs.declared.stop.Stop.{Stop}
 use Rattle.records.specs.declared.stop.Stop.TheVariants.{Fault, Memory}
-use Rattle.job_calls.specs.Jobs.{call_record, call_records}
+use Rattle.records.specs.Jobs.{call_record, call_records}
 use Rattle.job_calls.specs.Stops.{Bad, by_record, by_end}
 use Rattle.job_calls.specs.Made.{asked}
 use Rattle.job_calls.specs.Lines.{number_of_answer, level_after, call_line, call_lines}

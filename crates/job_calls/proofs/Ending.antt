@@ -20,7 +20,7 @@ use Rattle.records.specs.Records.{pixels}
 use Rattle.records.specs.Reading.{judged}
 use Rattle.records.specs.declared.stop.Stop.{Stop}
 use Rattle.records.specs.declared.stop.Stop.TheVariants.{Fault, Memory}
-use Rattle.job_calls.specs.Jobs.{Job, tile_records, call_records, records_of, Sound}
+use Rattle.records.specs.Jobs.{Job, tile_records, call_records, records_of, Sound}
 use Rattle.job_calls.specs.Stops.{Bad, Stops, at_seat, in_calls}
 use Rattle.job_calls.specs.Made.{Made, grey_setting}
 use Rattle.job_calls.specs.Lines.{line_of_fault, call_lines}

@@ -19,15 +19,16 @@ use Rattle.records.specs.Records.{pixels}
 use Rattle.records.specs.Reading.{head_checks, taken, ended, judged}
 use Rattle.records.specs.Encoding.{encoded, Comes, head, pixel, call}
 use Rattle.records.proofs.Encodings.{reads_back, only_may_come, only_written}
-use Rattle.job_calls.specs.Jobs.{Job, job_bytes, pixel_records, tile_records, call_record, call_records, records_of, Tile, Sound, Unfinished, no_head, some_pixels}
+use Rattle.records.specs.Jobs.{Job, job_bytes, pixel_records, tile_records, call_record, call_records, records_of, Tile, Sound, Unfinished, no_head, some_pixels}
 use Rattle.job_calls.specs.Stops.{Bad, by_record, by_end, Stops, in_tile, at_seat, in_calls}
 use Rattle.job_calls.specs.Reading.{Eight}
-use Rattle.job_calls.specs.Prints.{records_in, left_over}
+use Rattle.records.specs.Jobs.{records_in, left_over}
 use Rattle.job_calls.specs.Laws.{Bytes, Outcome, done, stopped, ComesTo, as_job, to_fault}
 use Rattle.records.proofs.Heads.{some_pixel}
 use Rattle.job_calls.proofs.Tiles.{tile_count, tile_more}
 use Rattle.job_calls.proofs.Calling.{calls_more}
-use Rattle.job_calls.proofs.Cuts.{AllEight, no_more, and_more, job_cut, bytes_of, records_eight}
+use Rattle.records.proofs.Cuts.{job_cut, bytes_of}
+use Rattle.job_calls.proofs.Cuts.{AllEight, no_more, and_more, records_eight}
 
 -- what was read so far: nothing, the head and some pixels of a tile, or a whole tile and some calls
 data Part : Type 0 where
@@ -275,7 +276,7 @@ module _ (records : List (List ℕ)) (left : ℕ) where
     next_call eight (Err f) q = (stopped (Some j) f, to_stop (in_calls j s (by_record q) e))
     next_call eight (Ok r) q =
         let n = length (records_of j) in
-        a_call (only_may_come n (place.Calls j.head) bs r eight.count q) (only_written n (place.Calls j.head) bs r eight.count eight.low q)
+        a_call (only_may_come n (place.Calls j.head) bs r q) (only_written n (place.Calls j.head) bs r eight.count eight.low q)
 
   exists_calls : (rs : List (List ℕ)) (j : Job) → Sound j → AllEight rs → records ≡ records_of j ++ rs → SomeOutcome
   exists_calls [] j s no_more e = end_calls j s e (eqb left 0) refl
@@ -323,7 +324,7 @@ module _ (records : List (List ℕ)) (left : ℕ) where
     next_pixel eight (Err f) q = (stopped None f, to_stop (in_tile (some_pixels h m g passes same less) (by_record q) e))
     next_pixel eight (Ok r) q =
         let n = length (tile_records h m g) in
-        a_pixel (only_may_come n (place.Pixels h (length m)) bs r eight.count q) (only_written n (place.Pixels h (length m)) bs r eight.count eight.low q)
+        a_pixel (only_may_come n (place.Pixels h (length m)) bs r q) (only_written n (place.Pixels h (length m)) bs r eight.count eight.low q)
 
   exists_tile : (rs : List (List ℕ)) (h : Head) (m g : List ℕ) → first_fault (head_checks h) ≡ None → length g ≡ length m → length m < pixels h →
       AllEight rs → records ≡ tile_records h m g ++ rs → SomeOutcome
@@ -338,7 +339,7 @@ module _ (records : List (List ℕ)) (left : ℕ) where
 
     first_record : Eight bs → (t : Result Record ReaderFault) → taken 0 place.Head bs ≡ t → SomeOutcome
     first_record eight (Err f) q = (stopped None f, to_stop (in_tile no_head (by_record q) e))
-    first_record eight (Ok r) q = a_head (only_may_come 0 place.Head bs r eight.count q) (only_written 0 place.Head bs r eight.count eight.low q)
+    first_record eight (Ok r) q = a_head (only_may_come 0 place.Head bs r q) (only_written 0 place.Head bs r eight.count eight.low q)
 
   exists_all : (rs : List (List ℕ)) → AllEight rs → records ≡ rs → SomeOutcome
   exists_all [] no_more e = end_tile no_head e (eqb left 0) refl

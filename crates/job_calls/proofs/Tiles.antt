@@ -15,8 +15,8 @@ use Rattle.records.specs.Reading.{head_checks, taken, place_after, among, ended}
 use Rattle.records.specs.Encoding.{encoded, next_pixel, Comes, head, pixel}
 use Rattle.records.proofs.Heads.{some_pixel}
 use Rattle.records.proofs.Encodings.{only_may_come, only_written}
-use Rattle.job_calls.specs.Jobs.{pixel_records, tile_records, Unfinished}
-use Rattle.job_calls.specs.Jobs as jobs
+use Rattle.records.specs.Jobs.{pixel_records, tile_records, Unfinished}
+use Rattle.records.specs.Jobs as jobs
 use Rattle.job_calls.specs.Stops.{Bad, by_record, by_end, Stops, in_tile}
 use Rattle.job_calls.specs.Calling.{takes_calls}
 use Rattle.job_calls.specs.Reading.{Eight, SoFar, no_head, pixels_of}
@@ -100,12 +100,12 @@ whole records n h (pixels_of k m g passes same le) e fits f = at (eqb (length m)
 leads : {bs m g : List ℕ} {p : Place} {front : List (List ℕ)} {r : Record} (n : ℕ) → SoFar m g p front → takes_calls p ≡ false → Eight bs → taken n p bs ≡ Ok r →
     SoFar (m ++ map_bytes r) (g ++ grey_bytes r) (place_after (Ok r) p) (front ++ (bs ∷ []))
 leads {bs} {r = r} n no_head more eight e =
-    at (only_may_come n place.Head bs r eight.count e) (only_written n place.Head bs r eight.count eight.low e)
+    at (only_may_come n place.Head bs r e) (only_written n place.Head bs r eight.count eight.low e)
   where
     at : {r : Record} → Comes place.Head r → bs ≡ encoded 0 r → SoFar (map_bytes r) (grey_bytes r) (place_after (Ok r) place.Head) (bs ∷ [])
     at (head passes) w = head_leads passes w
 leads {bs} {r = r} n (pixels_of h m g passes same le) more eight e =
-    at (eqb (length m) (pixels h)) refl more (only_may_come n (among h (length m)) bs r eight.count e) (only_written n (among h (length m)) bs r eight.count eight.low e)
+    at (eqb (length m) (pixels h)) refl more (only_may_come n (among h (length m)) bs r e) (only_written n (among h (length m)) bs r eight.count eight.low e)
   where
     at : (b : Bool) → eqb (length m) (pixels h) ≡ b → takes_calls (cond b (place.Calls h) (place.Pixels h (length m))) ≡ false →
         Comes (cond b (place.Calls h) (place.Pixels h (length m))) r → bs ≡ encoded (next_pixel (cond b (place.Calls h) (place.Pixels h (length m)))) r →

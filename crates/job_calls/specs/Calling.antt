@@ -12,7 +12,7 @@ use Rattle.records.specs.declared.place.Place.TheVariants as place
 use Rattle.records.specs.Reading.{taken}
 use Rattle.records.specs.declared.stop.Stop.{Stop}
 use Rattle.records.specs.declared.stop.Stop.TheVariants.{Fault, Memory}
-use Rattle.job_calls.specs.Jobs.{call_record, call_records}
+use Rattle.records.specs.Jobs.{call_record, call_records}
 use Rattle.job_calls.specs.Stops.{Bad}
 use Rattle.job_calls.specs.Made.{asked}
 use Rattle.job_calls.specs.Lines.{number_of_answer, call_line, call_lines}

@@ -9,7 +9,7 @@ use Rattle.records.specs.declared.stop.Stop.TheVariants.{Fault, Memory}
 use Rattle.records.specs.declared.place.Place.{Place}
 use Rattle.records.specs.declared.place.Place.TheVariants.{Calls}
 use Rattle.records.specs.Records.{pixels}
-use Rattle.job_calls.specs.Jobs.{Job, tile_records, records_of, Tile, Sound}
+use Rattle.records.specs.Jobs.{Job, tile_records, records_of, Tile, Sound}
 use Rattle.job_calls.specs.Stops.{Stops}
 use Rattle.job_calls.specs.Made.{Made}
 use Rattle.job_calls.specs.Lines.{line_of_fault, call_lines}

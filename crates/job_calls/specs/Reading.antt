@@ -6,7 +6,7 @@ use Rattle.records.specs.declared.place.Place.{Place}
 use Rattle.records.specs.declared.place.Place.TheVariants as place
 use Rattle.records.specs.Records.{byte, pixels}
 use Rattle.records.specs.Reading.{head_checks, among}
-use Rattle.job_calls.specs.Jobs.{tile_records}
+use Rattle.records.specs.Jobs.{tile_records}
 
 -- A record has eight bytes. Of their bounds, that of the low byte of a pixel number is needed.
 pub record Eight (bs : List ℕ) : Type 0 where

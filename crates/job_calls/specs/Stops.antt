@@ -10,7 +10,7 @@ use Rattle.records.specs.declared.place.Place.{Place}
 use Rattle.records.specs.declared.place.Place.TheVariants as place
 use Rattle.records.specs.Records.{pixels}
 use Rattle.records.specs.Reading.{taken, ended, judged}
-use Rattle.job_calls.specs.Jobs.{Job, tile_records, records_of, Tile, Sound, Unfinished}
+use Rattle.records.specs.Jobs.{Job, tile_records, records_of, Tile, Sound, Unfinished}
 
 -- What is wrong once n records were sound and left the reader at p: the records that follow, the number of bytes left over after them, and the fault.
 pub data Bad (n : ℕ) (p : Place) : List (List ℕ) → ℕ → ReaderFault → Type 0 where

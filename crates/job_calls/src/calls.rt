@@ -4,7 +4,7 @@ ghost use Rattle.scales.specs.Grey as scales;
 ghost use Rattle.bench.specs.Settings.{standing, calling};
 ghost use Rattle.bench.specs.Calls.{Filtered};
 ghost use Rattle.records.specs.Reading.{taken};
-ghost use Rattle.job_calls.specs.Jobs.{call_record};
+ghost use Rattle.records.specs.Jobs.{call_record};
 ghost use Rattle.job_calls.specs.Made.{asked, grey_setting};
 ghost use Rattle.job_calls.specs.Lines.{number_of_answer};
 ghost use Rattle.job_calls.specs.Calling.{takes_calls, Tried, Went};

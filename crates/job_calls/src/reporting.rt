@@ -4,7 +4,8 @@ ghost use Rattle.records.specs.Reading.{judged};
 ghost use Rattle.records.specs.declared.place.Place.TheVariants as place;
 ghost use Rattle.job_calls.specs.Ends.{Taken, AfterCalls, Ends};
 ghost use Rattle.job_calls.specs.Lines.{Appends};
-ghost use Rattle.job_calls.specs.Prints.{Ending, records_in, left_over, Printed, rows_and_note, inclusions, ending_of};
+ghost use Rattle.job_calls.specs.Prints.{Ending, Printed, rows_and_note, inclusions, ending_of};
+ghost use Rattle.records.specs.Jobs.{records_in, left_over};
 
 use crate::calls::make_calls;
 use crate::lines::{fault_line, push_inclusions, push_rows_and_note};

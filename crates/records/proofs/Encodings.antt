@@ -151,8 +151,8 @@ onto : (n : ℕ) (p : Place) (bs : List ℕ) (r : Record) (o : Option Kind) → 
 onto n p bs r None q e = let z : ◌≡◌ {A = ℕ} 0 1 = cc in absurd (omega arith)
 onto n p bs r (Some k) q e = let a = passed n p bs k r q e in (k, a.0, a.1)
 
-pub only_may_come : (n : ℕ) (p : Place) (bs : List ℕ) (r : Record) → length bs ≡ 8 → taken n p bs ≡ Ok r → Comes p r
-only_may_come n p bs r len e = let a = onto n p bs r (kind_of bs) refl e in subst (Comes p) a.2 (comes n p bs a.0 a.1)
+pub only_may_come : (n : ℕ) (p : Place) (bs : List ℕ) (r : Record) → taken n p bs ≡ Ok r → Comes p r
+only_may_come n p bs r e = let a = onto n p bs r (kind_of bs) refl e in subst (Comes p) a.2 (comes n p bs a.0 a.1)
 
 pub only_written : (n : ℕ) (p : Place) (bs : List ℕ) (r : Record) → length bs ≡ 8 → byte bs 1 < 256 → taken n p bs ≡ Ok r → bs ≡ encoded (next_pixel p) r
 only_written n p bs r len small e =

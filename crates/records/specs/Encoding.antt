@@ -47,6 +47,6 @@ pub data Comes : Place → Record → Type 0 where
 -- Reading and writing are each other's inverse: what may come reads as itself from its bytes, and nothing else is read.
 pub record LawsOfRecords : Type 0 where
   pub reads_back : (n : ℕ) (p : Place) (r : Record) → Comes p r → taken n p (encoded (next_pixel p) r) ≡ Ok r
-  pub only_may_come : (n : ℕ) (p : Place) (bs : List ℕ) (r : Record) → length bs ≡ 8 → taken n p bs ≡ Ok r → Comes p r
+  pub only_may_come : (n : ℕ) (p : Place) (bs : List ℕ) (r : Record) → taken n p bs ≡ Ok r → Comes p r
   pub only_written : (n : ℕ) (p : Place) (bs : List ℕ) (r : Record) →
       length bs ≡ 8 → byte bs 1 < 256 → taken n p bs ≡ Ok r → bs ≡ encoded (next_pixel p) r

@@ -4,3 +4,4 @@ pub mod Reading
 pub mod Bounds
 pub mod Encoding
 pub mod Criterion
+pub mod Jobs

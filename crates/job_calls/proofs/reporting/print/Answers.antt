@@ -1,6 +1,6 @@
 use Rattle.std.proofs.Common.{◌++◌, string_bytes, ap, ◌∙◌}
 use Rattle.job_calls.proofs.Ending.{ended_by}
-use Rattle.job_calls.specs.Prints.{records_in, left_over}
+use Rattle.records.specs.Jobs.{records_in, left_over}
 use Rattle.job_calls.proofs.reporting.print.Goals as goal
 
 pub returns-in_ok-push_str-in-Fault : goal.returns-in_ok-push_str-in-Fault

@@ -1,5 +1,6 @@
 -- Jobs, and how they lie in records. Assumes nothing.
-use Rattle.std.specs.Prelude.{◌≡◌, ℕ, ◌+◌, ◌<◌, List, [], ◌∷◌, ◌++◌, length, None}
+use Rattle.std.specs.Prelude.{◌≡◌, ℕ, ◌+◌, ◌/◌, ◌%◌, ◌<◌, List, [], ◌∷◌, ◌++◌, length, None}
+use Rattle.std.specs.Simd.{first_chunks}
 use Rattle.std.specs.List.{concat}
 use Rattle.maps.specs.Checks.{first_fault}
 use Rattle.maps.specs.Admission.{FirstNot}
@@ -51,6 +52,14 @@ pub record Tile (h : Head) (map grey : List ℕ) : Type 0 where
   pub passes : first_fault (head_checks h) ≡ None
   pub map_count : length map ≡ pixels h
   pub grey_count : length grey ≡ pixels h
+
+-- the records of a job are its runs of eight bytes
+abbrev pub records_in : List ℕ → List (List ℕ)
+records_in bs = first_chunks 8 (length bs / 8) bs
+
+-- how many bytes are left over after them
+abbrev pub left_over : List ℕ → ℕ
+left_over bs = length bs % 8
 
 -- A job can be done: its tile is whole, and its criterion admits every map byte.
 pub record Sound (j : Job) : Type 0 where
