@@ -1,59 +1,64 @@
 -- Records read one at a time. Assumes nothing.
-use Rattle.std.proofs.Common.{◌≡◌, ℕ, ◌+◌, ◌-◌, ◌<◌, ◌≤◌, List, [], length, get_or, take, drop, replicate, Some, Ok, Err, Result, sym, refl, ap, ◌∙◌, add-one, arith, drop-cons}
+use Rattle.std.proofs.Common.{◌≡◌, ℕ, ◌+◌, ◌<◌, ◌≤◌, Bool, true, false, cond, eqb, List, [], length, get_or, drop, Some, None, Ok, Err, Result, sym, refl, add-one, arith, drop-cons, length-append}
 use lib.Seq.{drop-length}
-use Rattle.criteria.specs.declared.fault.MapFault.{MapFault}
-use Rattle.maps.specs.Checks.{Check, first_fault, answered}
-use Rattle.bench.specs.declared.fault.BenchFault.{BenchFault}
-use Rattle.job.specs.declared.fault.ReaderFault.{ReaderFault}
-use Rattle.job.specs.declared.records.Record.{Record}
-use Rattle.job.specs.declared.records.Record.TheVariants as sound
-use Rattle.job.specs.declared.place.State.TheVariants as state
-use Rattle.job.specs.declared.place.Place.{Place}
-use Rattle.job.specs.Reading.{Progress, Reading, start, taken, place_after, progress, at_end, from_below, head_admits, lay_checks, lay_answer, through_bench, with_record, outcome, record_fault, reached, read_on, reading_from}
-use Rattle.job.proofs.Checking.{unanswered, refused}
-use Rattle.job.specs.Texts.{reading_text, job_text}
+use Rattle.std.proofs.lemmas.Bool.{eqb-true}
+use Rattle.records.specs.declared.fault.ReaderFault.{ReaderFault}
+use Rattle.records.specs.declared.records.Head.{Head}
+use Rattle.records.specs.declared.records.Record.{Record}
+use Rattle.records.specs.declared.records.Record.TheVariants as sound
+use Rattle.records.specs.declared.place.Place.{Place}
+use Rattle.records.specs.declared.place.Place.TheVariants as place
+use Rattle.records.specs.Records.{pixels, map_bytes, grey_bytes}
+use Rattle.records.specs.Reading.{taken, place_after, among, ended}
+use Rattle.records.specs.Encoding.{Comes, head, pixel, call}
+use Rattle.records.proofs.Encodings.{only_may_come}
+use Rattle.job.specs.Reading.{Progress, pixels_read, Filled, progress_after, record_fault, reached, read_on}
 
 module _ (i : ℕ) (records : List (List ℕ)) (left : ℕ) (s : Progress) where
   -- a sound record leads on
-  pub read_more : (u : Unit {0}) → i < length records → Ok u ≡ answered (record_fault i s (get_or records i [])) tt →
+  pub read_more : i < length records → record_fault i s (get_or records i []) ≡ None →
       read_on i (drop i records) left s ≡ read_on (i + 1) (drop (i + 1) records) left (reached i s (get_or records i []))
-  read_more u h e =
-      let none = unanswered (record_fault i s (get_or records i [])) tt u (sym e) in
-      rw (drop-cons records i [] h, none.0, add-one) refl
+  read_more h e = rw (drop-cons records i [] h, e, add-one) refl
 
   -- a bad one ends the reading
-  pub read_bad : (f : ReaderFault) → i < length records → ◌≡◌ {A = Result (Unit {0}) ReaderFault} (Err f) (answered (record_fault i s (get_or records i [])) tt) →
-      read_on i (drop i records) left s ≡ record { fault = Some f; left = reached i s (get_or records i []) }
-  read_bad f h e =
-      let found : record_fault i s (get_or records i []) ≡ Some f = refused {V = Unit {0}} _ tt f (sym e) in rw (drop-cons records i [] h, found) refl
+  pub read_bad : (f : ReaderFault) → i < length records → record_fault i s (get_or records i []) ≡ Some f →
+      read_on i (drop i records) left s ≡ record { end = Err f; left = reached i s (get_or records i []) }
+  read_bad f h e = rw (drop-cons records i [] h, e) refl
 
   -- and so does the end
-  pub read_done : i ≡ length records → read_on i (drop i records) left s ≡ record { fault = at_end (length records) left s.place; left = s }
+  pub read_done : i ≡ length records → read_on i (drop i records) left s ≡ record { end = ended (length records) left s.place; left = s }
   read_done e = rw (e, drop-length records) refl
 
 -- a record is one call at most
-pub calls_grow : (r : Result Record ReaderFault) (p : Place) → (place_after r p).calls ≤ p.calls + 1
-calls_grow (Ok (sound.Head h)) p = omega arith
-calls_grow (Ok (sound.Pixel v g)) p = omega arith
-calls_grow (Ok (sound.Call o n)) p = omega arith
-calls_grow (Err f) p = omega arith
+pub calls_grow : (t : Result Record ReaderFault) (s : Progress) → (progress_after t s).calls ≤ s.calls + 1
+calls_grow (Ok (sound.Head h)) s = omega arith
+calls_grow (Ok (sound.Pixel v g)) s = omega arith
+calls_grow (Ok (sound.Call o k)) s = omega arith
+calls_grow (Err f) s = omega arith
 
--- a reading from the start that ended so has the text of its end
-pub text_from_start : (p : Place) (bs : List ℕ) (end : Reading) →
-    p ≡ start → reading_from bs (progress p (replicate 4096 0) (replicate 4096 0)) ≡ end → reading_text end ≡ job_text bs
-text_from_start p bs end e read = sym (ap (λ q. reading_text (reading_from bs (progress q (replicate 4096 0) (replicate 4096 0)))) (sym e) ∙ ap reading_text read)
+among_read : (h : Head) (i : ℕ) → pixels_read (among h i) ≡ i
+among_read h i = at (eqb i (pixels h)) refl
+  where
+    at : (b : Bool) → eqb i (pixels h) ≡ b → pixels_read (cond b (place.Calls h) (place.Pixels h i)) ≡ i
+    at true e = sym (eqb-true i (pixels h) e)
+    at false e = refl
 
--- the checks at the last pixel, which leaves the reader with end
-abbrev pub last_checks : Progress → List (Check MapFault)
-last_checks end = lay_checks (head_admits end.place.head) (take end.place.count end.map)
+-- a P is one pixel more
+counted : {p : Place} {r : Record} → Comes p r → pixels_read (place_after (Ok r) p) ≡ pixels_read p + length (map_bytes r)
+counted (head passes) = refl
+counted (pixel {h = h} {next = next}) = among_read h (next + 1)
+counted (call {h = h}) = omega arith
 
--- what is wrong with the record of the last pixel is what these find, and so is what the laying of the map answers
-pub laying : (n : ℕ) (s : Progress) (bs : List ℕ) (r : Record) (v g : ℕ) (end : Progress) (b : Result (Unit {0}) BenchFault) →
-    Ok r ≡ taken n s.place bs → r ≡ sound.Pixel v g → end ≡ reached n s bs → end.place.state ≡ state.Calls →
-    b ≡ lay_answer (head_admits end.place.head) (take (end.place.count - 0) end.map) →
-    (record_fault n s bs ≡ first_fault (from_below n (last_checks end))) × (with_record n b ≡ with_record n (answered (through_bench (first_fault (last_checks end))) tt))
-laying n s bs r v g end b e p l d q =
-    let all : end.place.count - 0 ≡ end.place.count = omega arith in (
-      ap (λ t. outcome n t (reached n s bs)) (sym e ∙ ap Ok p) ∙ ap (outcome n (Ok (sound.Pixel v g))) (sym l) ∙ rw d refl,
-      ap (with_record n) (q ∙ ap (λ k. lay_answer (head_admits end.place.head) (take k end.map)) all),
-    )
+both : (r : Record) → length (grey_bytes r) ≡ length (map_bytes r)
+both (sound.Head h) = refl
+both (sound.Pixel v g) = refl
+both (sound.Call o k) = refl
+
+pub filled_after : (n : ℕ) (s : Progress) (bs : List ℕ) (t : Result Record ReaderFault) → taken n s.place bs ≡ t → Filled s → Filled (progress_after t s)
+filled_after n s bs (Ok r) e f =
+    let more = counted (only_may_come n s.place bs r e) in
+    let a = length-append s.map (map_bytes r) in
+    let b = length-append s.picture (grey_bytes r) in
+    let c = both r in
+    record { map_count = omega (arith, f.map_count); grey_count = omega (arith, f.grey_count) }
+filled_after n s bs (Err g) e f = f

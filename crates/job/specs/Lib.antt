@@ -1,8 +1,5 @@
-pub mod Faults
-pub mod Bounds
-pub mod Records
 pub mod Reading
-pub mod Encoding
+pub mod Progress
 pub mod Lines
 pub mod Texts
 pub mod Jobs

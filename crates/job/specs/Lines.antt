@@ -1,8 +1,8 @@
 -- The lines that a job prints. Assumes nothing.
 use Rattle.std.specs.Prelude.{ℕ, cond, List, [], ◌++◌, codes, decimal, ◌==◌}
 use Rattle.lines.specs.Lines.{newline, fault_line}
-use Rattle.job.specs.declared.fault.ReaderFault.{ReaderFault}
-use Rattle.job.specs.Faults.{reader_code, record_of_fault}
+use Rattle.records.specs.declared.fault.ReaderFault.{ReaderFault}
+use Rattle.records.specs.Faults.{reader_code, record_of_fault}
 
 -- the line of a fault
 abbrev pub line_of_fault : ReaderFault → List ℕ

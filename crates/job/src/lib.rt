@@ -1,16 +1,9 @@
-// Jobs: their records, the reader, and the text that a job prints.
+// Jobs whose calls are counted and not made: their reading, and the text that they print.
 #![tactic(auto)]
 
-mod fault;
-mod head;
-mod letters;
-mod place;
-mod reader;
 mod reading;
-mod records;
-mod state;
 mod text;
 mod theorems;
 
 pub use text::report;
-pub use theorems::{jobs_hold, records_hold};
+pub use theorems::jobs_hold;

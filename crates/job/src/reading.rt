@@ -1,89 +1,85 @@
 // The reading of a whole job.
-ghost use Rattle.std.specs.Prelude.{◌≡◌, ◌+◌, ◌^◌, ◌<◌, length};
-ghost use Rattle.maps.specs.Checks.{answered};
-ghost use Rattle.job.specs.Reading.{at_end, progress, record_fault, reached, ended, ReadsOn, reading_from};
+ghost use Rattle.std.specs.Prelude.{◌≡◌, ◌+◌, ◌^◌, ◌<◌, length, None, IfOk};
+ghost use Rattle.maps.specs.Checks.{first_fault};
+ghost use Rattle.records.specs.Records.{pixels};
+ghost use Rattle.records.specs.Reading.{head_checks, judged};
+ghost use Rattle.job.specs.Reading.{lay_answer};
 
-use crate::fault::ReaderFault;
-use crate::head::at;
-use crate::place::{Place, State};
-use crate::records::Record;
-use crate::state::Reader;
+use bench::BenchFault;
+use maps::Map;
+use records::{Head, Place, Reader, ReaderFault, Record, Stop, Tile};
+use std::alloc::Global;
 
-impl Place {
-    // May the job end here, after so many records and with so many bytes left over?
-    fn end(self, records: usize, left: usize) -> Result<(), ReaderFault>
-        ensures { result ≡ answered (at_end «records» left self) tt }
-    {
-        if left != 0 {
-            return Err(ReaderFault::Torn(records));
-        }
-        match self.state {
-            State::Calls => Ok(()),
-            _ => Err(ReaderFault::Order(records)),
-        }
-    }
+// Lays the map of a head that passed, under its criterion: all its values are admitted.
+fn lay(head: Head, values: &[u8]) -> Result<(), BenchFault>
+    requires passed { first_fault (head_checks head) ≡ None }
+    requires count { length values.now ≡ pixels head }
+    ensures { result ≡ lay_answer (judged head).admits values.now }
+{
+    let criterion = head.criterion()?;
+    let mut map = Map::empty();
+    map.make(
+        usize::from(head.width),
+        usize::from(head.height),
+        head.joining,
+        values,
+    )?;
+    maps::check_admitted(&criterion, &map)?;
+    Ok(())
 }
 
-impl Reader {
-    // Takes the next record; with the last pixel the map is laid.
-    fn advance(
-        &mut self,
-        number: usize,
-        bytes: &[u8; 8],
-        map: &mut [u8],
-        picture: &mut [u8],
-    ) -> Result<(), ReaderFault>
-        requires calls { self.old.place.calls + 1 < 2 ^ 64 }
-        requires buffers { (length map.old ≡ 4096) × (length picture.old ≡ 4096) }
-        ensures answer { result ≡ answered (record_fault number (progress self.old.place map.old picture.old) bytes.now) tt }
-        ensures left { progress self.new.place map.new picture.new
-            ≡ reached number (progress self.old.place map.old picture.old) bytes.now }
+// A job as it is read: the tile so far, and how many calls.
+#[derive(Drop)]
+pub(crate) struct JobReader {
+    reader: Reader,
+    pub(crate) tile: Tile,
+    pub(crate) calls: usize,
+}
+
+impl JobReader {
+    ghost use Rattle.job.specs.Reading.{Filled};
+    ghost use Rattle.job.specs.Progress.{progress, fresh, Advances, Reads};
+
+    pub(crate) fn new(heap: Global) -> JobReader
+        ensures { progress result ≡ fresh }
     {
-        let taken = self.take(number, bytes, map, picture)?;
-        let place = self.place;
-        match (taken, place.state) {
-            (Record::Pixel(_, _), State::Calls) => {
-                let count = place.count;
-                at(number, place.head.lay(&map[0..count]))?;
-                Ok(())
-            }
-            _ => Ok(()),
+        JobReader {
+            reader: Reader::new(),
+            tile: Tile::new(heap),
+            calls: 0,
         }
     }
 
-    // Takes records until one is bad.
-    fn take_all(
-        &mut self,
-        records: &[[u8; 8]],
-        map: &mut [u8],
-        picture: &mut [u8],
-    ) -> Result<(), ReaderFault>
-        requires calls { self.old.place.calls ≡ 0 }
-        requires buffers { (length map.old ≡ 4096) × (length picture.old ≡ 4096) }
-        ensures { ReadsOn records.now result
-            (progress self.old.place map.old picture.old)
-            (progress self.new.place map.new picture.new) }
+    // Takes the next record; with the last pixel the map is laid.
+    fn advance(&mut self, number: usize, bytes: &[u8; 8]) -> Result<(), Stop>
+        requires room { self.old.calls + 1 < 2 ^ 64 }
+        requires filled { Filled (progress self.old) }
+        ensures { Advances number bytes.now (progress self.old) result (progress self.new) }
     {
-        for (number, bytes) in records.iter().enumerate() {
-            self.advance(number, bytes, map, picture)?;
+        let taken = self.reader.take(number, bytes)?;
+        self.tile.add(taken)?;
+        match (taken, self.reader.place()) {
+            (Record::Pixel(_, _), Place::Calls { head }) => {
+                lay(head, &self.tile.map).map_err(|fault| ReaderFault::Bench(fault, number))?;
+            }
+            (Record::Call(_, _), _) => self.calls += 1,
+            _ => {}
         }
         Ok(())
     }
 
     // Reads a whole job.
-    pub(crate) fn read(
-        &mut self,
-        job: &[u8],
-        map: &mut [u8],
-        picture: &mut [u8],
-    ) -> Result<(), ReaderFault>
-        requires calls { self.old.place.calls ≡ 0 }
-        requires buffers { (length map.old ≡ 4096) × (length picture.old ≡ 4096) }
-        ensures { reading_from job.now (progress self.old.place map.old picture.old)
-            ≡ ended result (progress self.new.place map.new picture.new) }
+    pub(crate) fn read(&mut self, job: &[u8]) -> Result<Head, Stop>
+        requires { progress self.old ≡ fresh }
+        ensures reads { Reads job.now result (progress self.new) }
+        ensures passed { IfOk result (λ h. first_fault (head_checks h) ≡ None) }
+        ensures rows { IfOk result (λ h. length self.new.tile.picture.items ≡ pixels h) }
     {
         let (records, torn) = job.as_chunks::<8>();
-        self.take_all(records, map, picture)?;
-        self.place.end(records.len(), torn.len())
+        for (number, bytes) in records.iter().enumerate() {
+            self.advance(number, bytes)?;
+        }
+        let head = self.reader.end(records.len(), torn.len())?;
+        Ok(head)
     }
 }

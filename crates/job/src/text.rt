@@ -1,12 +1,15 @@
 // The text that a job prints.
-ghost use Rattle.std.specs.Prelude.{◌≡◌, ◌<◌, length, IfOk, Some, string_bytes};
+ghost use Rattle.std.specs.Prelude.{◌≡◌, length, None, IfOk, Some, string_bytes};
+ghost use Rattle.maps.specs.Checks.{first_fault};
+ghost use Rattle.records.specs.Records.{pixels};
+ghost use Rattle.records.specs.Reading.{head_checks};
 ghost use Rattle.job.specs.Lines.{not_made};
 ghost use Rattle.job.specs.Texts.{sound_text, fault_ending, job_text};
 
-use crate::fault::ReaderFault;
-use crate::place::Place;
-use crate::state::Reader;
+use crate::reading::JobReader;
+use criteria::Code;
 use lines::{FaultText, Rows};
+use records::{Head, ReaderFault, Stop};
 use std::alloc::{AllocError, Global};
 use std::fmt;
 
@@ -27,43 +30,46 @@ impl fmt::Display for NotMade {
 }
 
 // The text of a sound job.
-fn sound_report(heap: Global, reader: Reader, picture: &[u8]) -> Result<String, AllocError>
-    requires picture { length picture.now ≡ 4096 }
-    requires wide { 0 < reader.place.head.width }
-    ensures { IfOk result (λ text. string_bytes text ≡ sound_text reader.place picture.now) }
+fn sound_report(
+    heap: Global,
+    head: Head,
+    calls: usize,
+    picture: &[u8],
+) -> Result<String, AllocError>
+    requires passed { first_fault (head_checks head) ≡ None }
+    requires rows { length picture.now ≡ pixels head }
+    ensures { IfOk result (λ text. string_bytes text ≡ sound_text head calls picture.now) }
 {
-    let place = reader.place;
-    if place.calls != 0 {
-        return NotMade(place.calls).to_string(heap);
+    if calls != 0 {
+        return NotMade(calls).to_string(heap);
     }
     let rows = Rows {
-        width: usize::from(place.head.width),
-        height: usize::from(place.head.height),
+        width: usize::from(head.width),
+        height: usize::from(head.height),
         picture,
     };
     format!(in heap; "{rows}note 0 0 0 0\n")
 }
 
 // The text of a job that a fault ends.
-fn fault_report(heap: Global, place: Place, fault: ReaderFault) -> Result<String, AllocError>
-    ensures { IfOk result (λ text. string_bytes text ≡ fault_ending fault place) }
+fn fault_report(heap: Global, calls: usize, fault: ReaderFault) -> Result<String, AllocError>
+    ensures { IfOk result (λ text. string_bytes text ≡ fault_ending fault calls) }
 {
     let fault = FaultText {
-        code: fault.code(),
+        code: Code::from(fault),
         at: fault.added_record(),
     };
-    format!(in heap; "{}{fault}\n", NotMade(place.calls))
+    format!(in heap; "{}{fault}\n", NotMade(calls))
 }
 
 // What a job prints: every byte string is a job. The text, or an error where memory is wanting.
 pub fn report(heap: Global, job: &[u8]) -> Result<String, AllocError>
     ensures { IfOk result (λ text. string_bytes text ≡ job_text job.now) }
 {
-    let mut map = [0u8; 4096];
-    let mut picture = [0u8; 4096];
-    let mut reader = Reader::new();
-    match reader.read(job, &mut map, &mut picture) {
-        Ok(()) => sound_report(heap, reader, &picture),
-        Err(fault) => fault_report(heap, reader.place, fault),
+    let mut reader = JobReader::new(heap);
+    match reader.read(job) {
+        Ok(head) => sound_report(heap, head, reader.calls, &reader.tile.picture),
+        Err(Stop::Fault(fault)) => fault_report(heap, reader.calls, fault),
+        Err(Stop::Memory(error)) => Err(error),
     }
 }

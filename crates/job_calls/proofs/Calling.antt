@@ -1,5 +1,5 @@
 -- Calls of a job, made one after another. Assumes nothing.
-use Rattle.std.proofs.Common.{◌≡◌, ℕ, suc, ◌+◌, ◌<◌, Bool, true, false, cond, eqb, List, [], ◌∷◌, ◌++◌, map, length, get_or, take, drop, Some, None, Ok, Err, Result, sym, refl, ap, ◌∙◌, subst, append_assoc, append-nil, arith, take-append-drop, length-take-le, drop-cons}
+use Rattle.std.proofs.Common.{◌≡◌, ℕ, suc, ◌+◌, ◌<◌, Bool, true, false, cond, eqb, List, [], ◌∷◌, ◌++◌, map, length, get_or, take, drop, Ok, Err, sym, refl, ap, ◌∙◌, subst, append_assoc, append-nil, arith, take-append-drop, length-take-le, drop-cons}
 use lib.Seq.{take-length}
 use Rattle.std.proofs.lemmas.Bool.{eqb-true}
 use Rattle.maps.specs.Checks.{first_fault, answered, left_by}
@@ -9,16 +9,15 @@ use Rattle.morphology.specs.Calls.{Call}
 use Rattle.bench.specs.Settings.{Setting, Standing, Asked}
 use Rattle.bench.specs.Checks.{filter_checks}
 use Rattle.bench.specs.Calls.{Answer, Filtered, Run, no_call, one_more}
-use Rattle.maps.proofs.Answering.{no_fault}
-use Rattle.bench.proofs.Passing.{the_value, the_fault}
+use Rattle.bench.proofs.Passing.{the_value}
 use Rattle.records.specs.declared.fault.ReaderFault.{ReaderFault}
 use Rattle.records.specs.declared.fault.ReaderFault.TheVariants.{Torn}
-use Rattle.records.specs.declared.place.State.{State}
-use Rattle.records.specs.declared.place.State.TheVariants as state
-use Rattle.records.specs.Reading.{end_fault}
-use Rattle.job_calls.specs.declared.stop.Stop.{Stop}
-use Rattle.job_calls.specs.declared.stop.Stop.TheVariants.{Fault, Memory}
-use Rattle.job_calls.specs.Jobs.{call_record, call_records}
+use Rattle.records.specs.declared.place.Place.{Place}
+use Rattle.records.specs.declared.records.Head.{Head}
+use Rattle.records.specs.Reading.{done, ended}
+use Rattle.records.specs.declared.stop.Stop.{Stop}
+use Rattle.records.specs.declared.stop.Stop.TheVariants.{Fault, Memory}
+use Rattle.records.specs.Jobs.{call_record, call_records}
 use Rattle.job_calls.specs.Stops.{Bad, by_record, by_end}
 use Rattle.job_calls.specs.Made.{asked}
 use Rattle.job_calls.specs.Lines.{number_of_answer, level_after, call_line, call_lines}
@@ -81,38 +80,32 @@ module _ (s : Setting ℕ ℕ) where
       }
 
   -- a record at fault ends the calls, and so does want of memory
-  pub stopped : (n i next left : ℕ) (records : List (List ℕ)) {before mid : Standing ℕ} {old new : List ℕ} (after : Standing ℕ) (newer : List ℕ) (e : Stop) →
-      i < length records → Performed s (take i records) before old mid new → Tried s (n + i) next (get_or records i []) mid new (Err e) after newer →
-      Went s n next records left before old (Err e) after newer
-  stopped n i next left records after newer (Fault f) lt p t =
+  pub stopped : (n i left : ℕ) (p : Place) (records : List (List ℕ)) {before mid : Standing ℕ} {old new : List ℕ} (after : Standing ℕ) (newer : List ℕ) (e : Stop) →
+      i < length records → Performed s (take i records) before old mid new → Tried s (n + i) p (get_or records i []) mid new (Err e) after newer →
+      Went s n p records left before old (Err e) after newer
+  stopped n i left p records after newer (Fault f) lt P t =
       let count = length-take-le i records (omega arith) in
       record {
         front = take i records;
         rest = get_or records i [] ∷ drop (suc i) records;
         cut = sym (take-append-drop i records) ∙ ap (λ rs. take i records ++ rs) (drop-cons records i [] lt);
-        performed = rw (t.1, t.2) p;
-        bad = subst (λ k. Bad (n + k) state.Calls next (get_or records i [] ∷ drop (suc i) records) left f) (sym count) (by_record t.0);
+        performed = rw (t.1, t.2) P;
+        bad = subst (λ k. Bad (n + k) p (get_or records i [] ∷ drop (suc i) records) left f) (sym count) (by_record t.0);
       }
-  stopped n i next left records after newer (Memory e) lt p t = tt
+  stopped n i left p records after newer (Memory e) lt P t = tt
 
-  module _ (n i next left : ℕ) (records : List (List ℕ)) {before after : Standing ℕ} {old new : List ℕ} (all : i ≡ length records) (p : Performed s (take i records) before old after new) where
+  module _ (n i left : ℕ) (p : Place) (records : List (List ℕ)) {before after : Standing ℕ} {old new : List ℕ} (all : i ≡ length records) (P : Performed s (take i records) before old after new) where
     whole : Performed s records before old after new
-    whole = subst (λ rs. Performed s rs before old after new) (ap (λ k. take k records) all ∙ take-length records) p
+    whole = subst (λ rs. Performed s rs before old after new) (ap (λ k. take k records) all ∙ take-length records) P
 
     -- bytes left over end them too
-    pub torn : (at : State) (f : ReaderFault) → at ≡ state.Calls → ◌≡◌ {A = Result (Unit {0}) ReaderFault} (Err f) (answered (end_fault (n + length records) left at) tt) → Went s n next records left before old (Err (Fault f)) after new
-    torn at f q e = record {
-      front = records;
-      rest = [];
-      cut = sym (append-nil records);
-      performed = whole;
-      bad = by_end (ap (end_fault (n + length records) left) (sym q) ∙ the_fault {V = Unit {0}} (end_fault (n + length records) left at) tt e);
-    }
+    pub torn : (f : ReaderFault) → Err f ≡ ended (n + length records) left p → Went s n p records left before old (Err (Fault f)) after new
+    torn f e = record { front = records; rest = []; cut = sym (append-nil records); performed = whole; bad = by_end (sym e) }
 
     -- with none left over all is done
-    pub done_all : (at : State) (u : Unit {0}) → at ≡ state.Calls → ◌≡◌ {A = Result (Unit {0}) ReaderFault} (Ok u) (answered (end_fault (n + length records) left at) tt) → Went s n next records left before old (Ok u) after new
-    done_all at u q e = (whole, none_left (eqb left 0) refl (ap (end_fault (n + length records) left) (sym q) ∙ no_fault (end_fault (n + length records) left at) tt e))
+    pub done_all : {h : Head} → Ok h ≡ ended (n + length records) left p → Went s n p records left before old (Ok tt) after new
+    done_all {h} e = (whole, none_left (eqb left 0) refl e)
       where
-        none_left : (b : Bool) → eqb left 0 ≡ b → cond b None (Some (Torn (n + length records))) ≡ None → left ≡ 0
+        none_left : (b : Bool) → eqb left 0 ≡ b → Ok h ≡ cond b (done (n + length records) p) (Err (Torn (n + length records))) → left ≡ 0
         none_left true q e = eqb-true left 0 q
         none_left false q e = let z : ◌≡◌ {A = ℕ} 0 1 = cc in absurd (omega arith)

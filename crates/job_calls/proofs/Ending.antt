@@ -14,17 +14,19 @@ use Rattle.bench.specs.Laws.{Seated}
 use Rattle.records.specs.declared.fault.ReaderFault.{ReaderFault}
 use Rattle.records.specs.declared.fault.ReaderFault.TheVariants as reader
 use Rattle.records.specs.declared.records.Head.{Head}
-use Rattle.records.specs.declared.place.State.TheVariants as state
+use Rattle.records.specs.declared.place.Place.{Place}
+use Rattle.records.specs.declared.place.Place.TheVariants.{Calls}
+use Rattle.records.specs.Records.{pixels}
 use Rattle.records.specs.Reading.{judged}
-use Rattle.job_calls.specs.declared.stop.Stop.{Stop}
-use Rattle.job_calls.specs.declared.stop.Stop.TheVariants.{Fault, Memory}
-use Rattle.job_calls.specs.Jobs.{Job, pixels, tile_records, call_records, records_of, Sound}
+use Rattle.records.specs.declared.stop.Stop.{Stop}
+use Rattle.records.specs.declared.stop.Stop.TheVariants.{Fault, Memory}
+use Rattle.records.specs.Jobs.{Job, tile_records, call_records, records_of, Sound}
 use Rattle.job_calls.specs.Stops.{Bad, Stops, at_seat, in_calls}
 use Rattle.job_calls.specs.Made.{Made, grey_setting}
 use Rattle.job_calls.specs.Lines.{line_of_fault, call_lines}
 use Rattle.job_calls.specs.Calling.{Performed, Went, RefusedAt}
 use Rattle.job_calls.specs.Prints.{Ending, closing_text, Prints, whole, unseated, broken_off}
-use Rattle.job_calls.specs.Ends.{Taken, Filters, AfterCalls, Ends}
+use Rattle.job_calls.specs.Ends.{Taken, TakesTile, Filters, AfterCalls, Ends}
 
 -- the records from number n on, as a slice has them
 pub rest_is : {A : Type 0} (xs : List A) (n : ℕ) → take (length xs - n) (drop n xs) ≡ drop n xs
@@ -76,10 +78,10 @@ module _ (records : List (List ℕ)) (n left : ℕ) (h : Head) (values grey : Li
           omega arith
 
     -- the job is done
-    finished : (next : ℕ) (c : Bench) (picture old new : List ℕ) (u : Unit {0}) → old ≡ [] →
-        Went (grey_setting (judged h) on) n next (drop n records) left (standing b grey) old (Ok u) (standing c picture) new →
+    finished : (p : Place) (c : Bench) (picture old new : List ℕ) (u : Unit {0}) → old ≡ [] →
+        Went (grey_setting (judged h) on) n p (drop n records) left (standing b grey) old (Ok u) (standing c picture) new →
         Filters records left h grey c picture new
-    finished next c picture old new u none (P, e) = record {
+    finished p c picture old new u none (P, e) = record {
       job = job_of P.calls;
       answers = P.answers;
       sound = sound_of P.calls;
@@ -92,15 +94,15 @@ module _ (records : List (List ℕ)) (n left : ℕ) (h : Head) (values grey : Li
     }
 
     -- or it is broken off
-    stopped : (ending : Ending) (next : ℕ) (c : Bench) (picture old new : List ℕ) (e : Stop) → old ≡ [] → next ≡ pixels h →
-        Went (grey_setting (judged h) on) n next (drop n records) left (standing b grey) old (Err e) (standing c picture) new →
+    stopped : (ending : Ending) (p : Place) (c : Bench) (picture old new : List ℕ) (e : Stop) → old ≡ [] → p ≡ Calls h →
+        Went (grey_setting (judged h) on) n p (drop n records) left (standing b grey) old (Err e) (standing c picture) new →
         AfterCalls ending records left h grey (Err e) picture new
-    stopped ending next c picture old new (Fault f) none here B =
+    stopped ending p c picture old new (Fault f) none here B =
         let P = B.performed in
         let job = job_of P.calls in
-        let bad = subst (λ k. Bad k state.Calls (pixels h) B.rest left f) (count_of none P) (subst (λ k. Bad (n + length B.front) state.Calls k B.rest left f) here B.bad) in
+        let bad = subst (λ k. Bad k (Calls h) B.rest left f) (count_of none P) (subst (λ q. Bad (n + length B.front) q B.rest left f) here B.bad) in
         broken_off (in_calls job (sound_of P.calls) bad (whole_of none P B.rest B.cut)) (made_of none P) (ap (λ t. t ++ line_of_fault f) (lines_of none P))
-    stopped ending next c picture old new (Memory e) none here B = tt
+    stopped ending p c picture old new (Memory e) none here B = tt
 
   -- a call list's answer with the bench that it left
   abbrev pub with_bench : Bench → Result (Unit {0}) Stop → Result Bench Stop
@@ -108,34 +110,36 @@ module _ (records : List (List ℕ)) (n left : ℕ) (h : Head) (values grey : Li
   with_bench c (Err e) = Err e
 
   -- what the calls come to, once the picture is seated
-  pub after_calls : (ending : Ending) (j : Judgement ℕ) (picture : List ℕ) (rest : List (List ℕ)) (on : Map ℕ) (b c : Bench) (filtered old new : List ℕ) (next : ℕ) (r : Result (Unit {0}) Stop) →
-      j ≡ judged h → picture ≡ grey → rest ≡ drop n records → old ≡ [] → next ≡ pixels h →
+  pub after_calls : (ending : Ending) (j : Judgement ℕ) (picture : List ℕ) (rest : List (List ℕ)) (on : Map ℕ) (b c : Bench) (filtered old new : List ℕ) (p : Place) (r : Result (Unit {0}) Stop) →
+      j ≡ judged h → picture ≡ grey → rest ≡ drop n records → old ≡ [] → p ≡ Calls h →
       window_of on ≡ window values h.width h.height h.joining → Seated (grey_setting j on) picture b → FirstNot j.admits values None →
-      Went (grey_setting j on) n next rest left (standing b picture) old r (standing c filtered) new →
+      Went (grey_setting j on) n p rest left (standing b picture) old r (standing c filtered) new →
       AfterCalls ending records left h grey (with_bench c r) filtered new
-  after_calls ending j picture rest on b c filtered old new next r e p q none here shows seated admitted went = ends r went_on
+  after_calls ending j picture rest on b c filtered old new p r e same q none here shows seated admitted went = ends r went_on
     where
       seated_on : Seated (grey_setting (judged h) on) grey b
-      seated_on = subst (λ xs. Seated (grey_setting (judged h) on) xs b) p (subst (λ k. Seated (grey_setting k on) picture b) e seated)
+      seated_on = subst (λ xs. Seated (grey_setting (judged h) on) xs b) same (subst (λ k. Seated (grey_setting k on) picture b) e seated)
 
       admitted_on : FirstNot (judged h).admits values None
       admitted_on = subst (λ (k : Judgement ℕ). FirstNot k.admits values None) e admitted
 
-      went_on : Went (grey_setting (judged h) on) n next (drop n records) left (standing b grey) old r (standing c filtered) new
+      went_on : Went (grey_setting (judged h) on) n p (drop n records) left (standing b grey) old r (standing c filtered) new
       went_on =
-          subst (λ rs. Went (grey_setting (judged h) on) n next rs left (standing b grey) old r (standing c filtered) new) q
-          (subst (λ xs. Went (grey_setting (judged h) on) n next rest left (standing b xs) old r (standing c filtered) new) p
-          (subst (λ k. Went (grey_setting k on) n next rest left (standing b picture) old r (standing c filtered) new) e went))
+          subst (λ rs. Went (grey_setting (judged h) on) n p rs left (standing b grey) old r (standing c filtered) new) q
+          (subst (λ xs. Went (grey_setting (judged h) on) n p rest left (standing b xs) old r (standing c filtered) new) same
+          (subst (λ k. Went (grey_setting k on) n p rest left (standing b picture) old r (standing c filtered) new) e went))
 
-      ends : (r : Result (Unit {0}) Stop) → Went (grey_setting (judged h) on) n next (drop n records) left (standing b grey) old r (standing c filtered) new →
+      ends : (r : Result (Unit {0}) Stop) → Went (grey_setting (judged h) on) n p (drop n records) left (standing b grey) old r (standing c filtered) new →
           AfterCalls ending records left h grey (with_bench c r) filtered new
-      ends (Ok u) w = finished on shows b seated_on admitted_on next c filtered old new u none w
-      ends (Err f) w = stopped on shows b seated_on admitted_on ending next c filtered old new f none here w
+      ends (Ok u) w = finished on shows b seated_on admitted_on p c filtered old new u none w
+      ends (Err f) w = stopped on shows b seated_on admitted_on ending p c filtered old new f none here w
 
--- a fault before the tile is whole
-pub unread : (ending : Ending) (records rs : List (List ℕ)) (left k : ℕ) (f : ReaderFault) (text : List ℕ) → records ≡ rs → left ≡ k → text ≡ [] →
-    Stops records left None f → Prints ending rs k (text ++ line_of_fault f)
-unread ending records rs left k f text a b none s = unseated (subst (λ m. Stops rs m None f) b (subst (λ xs. Stops xs left None f) a s)) (ap (λ t. t ++ line_of_fault f) none)
+-- what ends the reading of the tile ends the job
+pub unread : (ending : Ending) (records rs : List (List ℕ)) (left k : ℕ) (e : Stop) (p : Place) (map grey text : List ℕ) → records ≡ rs → left ≡ k → text ≡ [] →
+    TakesTile records left (Err e) p map grey → Ends ending rs k (Err e) text
+unread ending records rs left k (Fault f) p map grey text a b none s =
+    unseated (subst (λ m. Stops rs m None f) b (subst (λ xs. Stops xs left None f) a s)) (ap (λ t. t ++ line_of_fault f) none)
+unread ending records rs left k (Memory e) p map grey text a b none s = tt
 
 -- the line of a fault is added
 pub ended_by : (ending : Ending) (records : List (List ℕ)) (left : ℕ) (old new : List ℕ) (e : Stop) (f : ReaderFault) → Ends ending records left (Err e) old → e ≡ Fault f →

@@ -12,13 +12,14 @@ use Rattle.bench.specs.Calls.{Answer}
 use Rattle.bench.specs.Tallies.{Tally, empty, Tallied, no_call, accepts, refuses}
 use Rattle.records.specs.declared.fault.ReaderFault.{ReaderFault}
 use Rattle.records.specs.Reading.{judged}
-use Rattle.job_calls.specs.Jobs.{Job, job_bytes, Sound}
+use Rattle.records.specs.Jobs.{Job, job_bytes, Sound}
 use Rattle.job_calls.specs.Stops.{Stops}
 use Rattle.job_calls.specs.Made.{Made, asked, grey_setting}
 use Rattle.job_calls.specs.Lines.{line_of_fault, call_lines}
-use Rattle.job_calls.specs.Prints.{Ending, closing_text, whole, unseated, broken_off, records_in, left_over, Printed}
+use Rattle.job_calls.specs.Prints.{Ending, closing_text, whole, unseated, broken_off, Printed}
+use Rattle.records.specs.Jobs.{records_in, left_over}
 use Rattle.job_calls.specs.Laws.{Outcome, done, stopped, ComesTo, as_job, to_fault, EndsWith}
-use Rattle.job_calls.proofs.Cuts.{job_cut, bytes_of}
+use Rattle.records.proofs.Cuts.{job_cut, bytes_of}
 use Rattle.job_calls.proofs.Outcomes.{one_outcome}
 
 -- a tally is told in one way

@@ -13,19 +13,22 @@ use Rattle.records.specs.declared.fault.ReaderFault.TheVariants as reader
 use Rattle.records.specs.declared.records.Head.{Head}
 use Rattle.records.specs.declared.records.Record.{Record}
 use Rattle.records.specs.declared.records.Record.TheVariants as sound
-use Rattle.records.specs.declared.place.State.{State}
-use Rattle.records.specs.declared.place.State.TheVariants as state
-use Rattle.records.specs.Reading.{head_checks, taken, end_fault, judged}
+use Rattle.records.specs.declared.place.Place.{Place}
+use Rattle.records.specs.declared.place.Place.TheVariants as place
+use Rattle.records.specs.Records.{pixels}
+use Rattle.records.specs.Reading.{head_checks, taken, ended, judged}
 use Rattle.records.specs.Encoding.{encoded, Comes, head, pixel, call}
 use Rattle.records.proofs.Encodings.{reads_back, only_may_come, only_written}
-use Rattle.job_calls.specs.Jobs.{Job, job_bytes, pixels, pixel_records, tile_records, call_record, call_records, records_of, Tile, Sound, Unfinished, no_head, some_pixels}
+use Rattle.records.specs.Jobs.{Job, job_bytes, pixel_records, tile_records, call_record, call_records, records_of, Tile, Sound, Unfinished, no_head, some_pixels}
 use Rattle.job_calls.specs.Stops.{Bad, by_record, by_end, Stops, in_tile, at_seat, in_calls}
 use Rattle.job_calls.specs.Reading.{Eight}
-use Rattle.job_calls.specs.Prints.{records_in, left_over}
+use Rattle.records.specs.Jobs.{records_in, left_over}
 use Rattle.job_calls.specs.Laws.{Bytes, Outcome, done, stopped, ComesTo, as_job, to_fault}
-use Rattle.job_calls.proofs.Tiles.{some_pixel, tile_count, tile_more}
+use Rattle.records.proofs.Heads.{some_pixel}
+use Rattle.job_calls.proofs.Tiles.{tile_count, tile_more}
 use Rattle.job_calls.proofs.Calling.{calls_more}
-use Rattle.job_calls.proofs.Cuts.{AllEight, no_more, and_more, job_cut, bytes_of, records_eight}
+use Rattle.records.proofs.Cuts.{job_cut, bytes_of}
+use Rattle.job_calls.proofs.Cuts.{AllEight, no_more, and_more, records_eight}
 
 -- what was read so far: nothing, the head and some pixels of a tile, or a whole tile and some calls
 data Part : Type 0 where
@@ -33,15 +36,10 @@ data Part : Type 0 where
   tile : Head → List ℕ → List ℕ → Part
   whole : Job → Part
 
-abbrev state_of : Part → State
-state_of nothing = state.Head
-state_of (tile h m g) = state.Pixels
-state_of (whole j) = state.Calls
-
-abbrev next_of : Part → ℕ
-next_of nothing = 0
-next_of (tile h m g) = length m
-next_of (whole j) = pixels j.head
+abbrev place_of : Part → Place
+place_of nothing = place.Head
+place_of (tile h m g) = place.Pixels h (length m)
+place_of (whole j) = place.Calls j.head
 
 abbrev seen : Part → Option Job
 seen nothing = None
@@ -80,13 +78,13 @@ after n (whole j) (Ok (sound.Call o k)) = Ok (whole (with_calls j (record { oper
 after n (whole j) (Err f) = Err f
 
 -- the end of the records; a part that is not whole does not end well
-abbrev ended : Part → Option ReaderFault → Outcome
-ended nothing None = stopped None (reader.Order 0)
-ended nothing (Some f) = stopped None f
-ended (tile h m g) None = stopped None (reader.Order 0)
-ended (tile h m g) (Some f) = stopped None f
-ended (whole j) None = done j
-ended (whole j) (Some f) = stopped (Some j) f
+abbrev out_of : Part → Result Head ReaderFault → Outcome
+out_of nothing (Ok h) = stopped None (reader.Order 0)
+out_of nothing (Err f) = stopped None f
+out_of (tile h m g) (Ok k) = stopped None (reader.Order 0)
+out_of (tile h m g) (Err f) = stopped None f
+out_of (whole j) (Ok h) = done j
+out_of (whole j) (Err f) = stopped (Some j) f
 
 abbrev onward : Result Part ReaderFault → Part → (Part → Outcome) → Outcome
 onward (Ok q) p more = more q
@@ -94,11 +92,11 @@ onward (Err f) p more = stopped (seen p) f
 
 -- the records from number n on
 abbrev read : ℕ → Part → List (List ℕ) → ℕ → Outcome
-read n p [] left = ended p (end_fault n left (state_of p))
-read n p (bs ∷ rs) left = onward (after n p (taken n (state_of p) (next_of p) bs)) p (λ q. read (n + 1) q rs left)
+read n p [] left = out_of p (ended n left (place_of p))
+read n p (bs ∷ rs) left = onward (after n p (taken n (place_of p) bs)) p (λ q. read (n + 1) q rs left)
 
 -- what is bad ends the reading
-bad_ends : (n : ℕ) (p : Part) {rest : List (List ℕ)} {left : ℕ} {f : ReaderFault} → Bad n (state_of p) (next_of p) rest left f → read n p rest left ≡ stopped (seen p) f
+bad_ends : (n : ℕ) (p : Part) {rest : List (List ℕ)} {left : ℕ} {f : ReaderFault} → Bad n (place_of p) rest left f → read n p rest left ≡ stopped (seen p) f
 bad_ends n nothing (by_record e) = rw e refl
 bad_ends n nothing (by_end e) = rw e refl
 bad_ends n (tile h m g) (by_record e) = rw e refl
@@ -118,7 +116,7 @@ calls_read j [] rest n left =
     ap (λ k. read k (whole j) rest left) same ∙ ap (λ cs. read (n + 0) (whole (record { head = j.head; map = j.map; grey = j.grey; calls = cs })) rest left) (sym (append-nil j.calls))
 calls_read j (c ∷ cs) rest n left =
     let r = sound.Call c.operation c.size in
-    let one = reads_back n state.Calls (pixels j.head) r (call refl) in
+    let one = reads_back n (place.Calls j.head) r call in
     let same : (n + 1) + length cs ≡ n + suc (length cs) = omega arith in
     ap (λ t. onward (after n (whole j) t) (whole j) (λ q. read (n + 1) q (call_records cs ++ rest) left)) one
     ∙ calls_read (with_calls j (c ∷ [])) cs rest (n + 1) left
@@ -131,7 +129,7 @@ module _ (h : Head) (rest : List (List ℕ)) (left : ℕ) where
       read n (tile h m g) (encoded i (sound.Pixel v y) ∷ more) left
       ≡ onward (filled (eqb (length m + 1) (pixels h)) n h (m ++ (v ∷ [])) (g ++ (y ∷ []))) (tile h m g) (λ q. read (n + 1) q more left)
   pixel_read m g v y i n more e =
-      let one = reads_back n state.Pixels (length m) (sound.Pixel v y) (pixel refl) in
+      let one = reads_back n (place.Pixels h (length m)) (sound.Pixel v y) pixel in
       ap (λ k. read n (tile h m g) (encoded k (sound.Pixel v y) ∷ more) left) (sym e)
       ∙ ap (λ t. onward (after n (tile h m g) t) (tile h m g) (λ q. read (n + 1) q more left)) one
 
@@ -189,7 +187,7 @@ module _ (h : Head) (rest : List (List ℕ)) (left : ℕ) where
 head_read : (h : Head) (rs : List (List ℕ)) (left : ℕ) → first_fault (head_checks h) ≡ None →
     read 0 nothing (encoded 0 (sound.Head h) ∷ rs) left ≡ read 1 (tile h [] []) rs left
 head_read h rs left passes =
-    let one = reads_back 0 state.Head 0 (sound.Head h) (head refl passes) in
+    let one = reads_back 0 place.Head (sound.Head h) (head passes) in
     ap (λ t. onward (after 0 nothing t) nothing (λ q. read 1 q rs left)) one
 
 -- a whole tile
@@ -265,10 +263,8 @@ module _ (records : List (List ℕ)) (left : ℕ) where
   -- a record among the calls
   module _ (j : Job) (s : Sound j) (bs : List ℕ) (rs : List (List ℕ)) (e : records ≡ records_of j ++ (bs ∷ rs))
       (later : (k : Job) → Sound k → records ≡ records_of k ++ rs → SomeOutcome) where
-    a_call : (r : Record) → Comes state.Calls r → bs ≡ encoded (pixels j.head) r → SomeOutcome
-    a_call (sound.Head h) (head z p) w = absurd cc
-    a_call (sound.Pixel v y) (pixel z) w = absurd cc
-    a_call (sound.Call o k) (call z) w =
+    a_call : {r : Record} → Comes (place.Calls j.head) r → bs ≡ encoded 0 r → SomeOutcome
+    a_call (call {o = o} {s = k}) w =
         let c : Call = record { operation = o; size = k } in
         let front = tile_records j.head j.map j.grey in
         let calls = call_records j.calls in
@@ -276,19 +272,19 @@ module _ (records : List (List ℕ)) (left : ℕ) where
         (e ∙ ap (λ b. (front ++ calls) ++ (b ∷ rs)) w ∙ sym (append_snoc (front ++ calls) (call_record c) rs)
         ∙ ap (λ xs. xs ++ rs) (append_assoc front calls (call_record c ∷ []) ∙ ap (λ xs. front ++ xs) (sym (calls_more j.calls c))))
 
-    next_call : Eight bs → (t : Result Record ReaderFault) → taken (length (records_of j)) state.Calls (pixels j.head) bs ≡ t → SomeOutcome
+    next_call : Eight bs → (t : Result Record ReaderFault) → taken (length (records_of j)) (place.Calls j.head) bs ≡ t → SomeOutcome
     next_call eight (Err f) q = (stopped (Some j) f, to_stop (in_calls j s (by_record q) e))
     next_call eight (Ok r) q =
         let n = length (records_of j) in
-        a_call r (only_may_come n state.Calls (pixels j.head) bs r eight.count q) (only_written n state.Calls (pixels j.head) bs r eight.count eight.low q)
+        a_call (only_may_come n (place.Calls j.head) bs r q) (only_written n (place.Calls j.head) bs r eight.count eight.low q)
 
   exists_calls : (rs : List (List ℕ)) (j : Job) → Sound j → AllEight rs → records ≡ records_of j ++ rs → SomeOutcome
   exists_calls [] j s no_more e = end_calls j s e (eqb left 0) refl
   exists_calls (bs ∷ rs) j s (and_more eight more) e =
-      next_call j s bs rs e (λ k sk ek. exists_calls rs k sk more ek) eight (taken (length (records_of j)) state.Calls (pixels j.head) bs) refl
+      next_call j s bs rs e (λ k sk ek. exists_calls rs k sk more ek) eight (taken (length (records_of j)) (place.Calls j.head) bs) refl
 
   -- the end of an unfinished tile
-  end_tile : {at : State} {next : ℕ} {front : List (List ℕ)} → Unfinished at next front → records ≡ front ++ [] →
+  end_tile : {p : Place} {front : List (List ℕ)} → Unfinished p front → records ≡ front ++ [] →
       (b : Bool) → eqb left 0 ≡ b → SomeOutcome
   end_tile {front = front} no_head e true q = (stopped None (reader.Order 0), to_stop (in_tile no_head (by_end (rw q refl)) e))
   end_tile {front = front} no_head e false q = (stopped None (reader.Torn 0), to_stop (in_tile no_head (by_end (rw q refl)) e))
@@ -315,43 +311,39 @@ module _ (records : List (List ℕ)) (left : ℕ) where
             (r ∙ ap (λ xs. xs ++ rs) (sym (append-nil (tile_records h m' g'))))
         seated (Some i) f = (stopped None _, to_stop (at_seat h m' g' rs whole_tile (subst (FirstNot (judged h).admits m') f (first_not_is (judged h).admits m')) r))
 
-    a_pixel : (r : Record) → Comes state.Pixels r → bs ≡ encoded (length m) r → SomeOutcome
-    a_pixel (sound.Head k) (head z p) w = absurd cc
-    a_pixel (sound.Pixel v y) (pixel z) w =
+    a_pixel : {r : Record} → Comes (place.Pixels h (length m)) r → bs ≡ encoded (length m) r → SomeOutcome
+    a_pixel (pixel {v = v} {g = y}) w =
         let a = length-append m (v ∷ []) in
         let b = length-append g (y ∷ []) in
         let front = tile_records h m g in
         a_pixel_more (m ++ (v ∷ [])) (g ++ (y ∷ [])) (omega arith) a
         (e ∙ ap (λ x. front ++ (x ∷ rs)) w ∙ sym (append_snoc front (encoded (length m) (sound.Pixel v y)) rs) ∙ ap (λ xs. xs ++ rs) (sym (tile_more h m g v y (length m) refl same)))
         (eqb (length m + 1) (pixels h)) refl
-    a_pixel (sound.Call o k) (call z) w = absurd cc
 
-    next_pixel : Eight bs → (t : Result Record ReaderFault) → taken (length (tile_records h m g)) state.Pixels (length m) bs ≡ t → SomeOutcome
+    next_pixel : Eight bs → (t : Result Record ReaderFault) → taken (length (tile_records h m g)) (place.Pixels h (length m)) bs ≡ t → SomeOutcome
     next_pixel eight (Err f) q = (stopped None f, to_stop (in_tile (some_pixels h m g passes same less) (by_record q) e))
     next_pixel eight (Ok r) q =
         let n = length (tile_records h m g) in
-        a_pixel r (only_may_come n state.Pixels (length m) bs r eight.count q) (only_written n state.Pixels (length m) bs r eight.count eight.low q)
+        a_pixel (only_may_come n (place.Pixels h (length m)) bs r q) (only_written n (place.Pixels h (length m)) bs r eight.count eight.low q)
 
   exists_tile : (rs : List (List ℕ)) (h : Head) (m g : List ℕ) → first_fault (head_checks h) ≡ None → length g ≡ length m → length m < pixels h →
       AllEight rs → records ≡ tile_records h m g ++ rs → SomeOutcome
   exists_tile [] h m g passes same less no_more e = end_tile (some_pixels h m g passes same less) e (eqb left 0) refl
   exists_tile (bs ∷ rs) h m g passes same less (and_more eight more) e =
-      next_pixel h m g passes same less bs rs more e (λ m' g' a b r. exists_tile rs h m' g' passes a b more r) eight (taken (length (tile_records h m g)) state.Pixels (length m) bs) refl
+      next_pixel h m g passes same less bs rs more e (λ m' g' a b r. exists_tile rs h m' g' passes a b more r) eight (taken (length (tile_records h m g)) (place.Pixels h (length m)) bs) refl
 
   -- the first record
   module _ (bs : List ℕ) (rs : List (List ℕ)) (more : AllEight rs) (e : records ≡ bs ∷ rs) where
-    a_head : (r : Record) → Comes state.Head r → bs ≡ encoded 0 r → SomeOutcome
-    a_head (sound.Head h) (head z passes) w = exists_tile rs h [] [] passes refl (some_pixel h passes) more (e ∙ ap (λ x. x ∷ rs) w)
-    a_head (sound.Pixel v y) (pixel z) w = absurd cc
-    a_head (sound.Call o k) (call z) w = absurd cc
+    a_head : {r : Record} → Comes place.Head r → bs ≡ encoded 0 r → SomeOutcome
+    a_head (head {h = h} passes) w = exists_tile rs h [] [] passes refl (some_pixel h passes) more (e ∙ ap (λ x. x ∷ rs) w)
 
-    first_record : Eight bs → (t : Result Record ReaderFault) → taken 0 state.Head 0 bs ≡ t → SomeOutcome
+    first_record : Eight bs → (t : Result Record ReaderFault) → taken 0 place.Head bs ≡ t → SomeOutcome
     first_record eight (Err f) q = (stopped None f, to_stop (in_tile no_head (by_record q) e))
-    first_record eight (Ok r) q = a_head r (only_may_come 0 state.Head 0 bs r eight.count q) (only_written 0 state.Head 0 bs r eight.count eight.low q)
+    first_record eight (Ok r) q = a_head (only_may_come 0 place.Head bs r q) (only_written 0 place.Head bs r eight.count eight.low q)
 
   exists_all : (rs : List (List ℕ)) → AllEight rs → records ≡ rs → SomeOutcome
   exists_all [] no_more e = end_tile no_head e (eqb left 0) refl
-  exists_all (bs ∷ rs) (and_more eight more) e = first_record bs rs more e eight (taken 0 state.Head 0 bs) refl
+  exists_all (bs ∷ rs) (and_more eight more) e = first_record bs rs more e eight (taken 0 place.Head bs) refl
 
 -- bytes come to something
 pub some_outcome : (bs : List ℕ) → Bytes bs → (o : Outcome) × ComesTo bs o

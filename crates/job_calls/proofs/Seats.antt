@@ -1,7 +1,7 @@
 -- Which pictures are seated. Assumes nothing.
 use Rattle.std.proofs.Common.{◌≡◌, ℕ, ◌*◌, ◌<◌, eqb, List, [], ◌∷◌, Some, None, Ok, Err, Option, Result, refl, ap, ◌∙◌, subst, mul-pos, arith}
 use Rattle.std.proofs.lemmas.Bool.{eq-eqb, eqb-true, lt-ltb}
-use Rattle.std.specs.Result.{result_err}
+use Rattle.std.specs.Result.{result_err, MatchResult, IsErrAnd}
 use Rattle.criteria.specs.Criteria.{Judgement}
 use Rattle.criteria.specs.declared.fault.MapFault.TheVariants.{Inadmissible}
 use Rattle.maps.specs.declared.map.Map.{Map}
@@ -16,8 +16,8 @@ use Rattle.bench.specs.declared.fault.BenchFault.{BenchFault}
 use Rattle.bench.specs.declared.fault.BenchFault.TheVariants as fault
 use Rattle.bench.specs.Checks.{seat_checks, from_map, picture_fits, some_pixel}
 use Rattle.bench.proofs.Passing.{left_out}
+use Rattle.records.specs.declared.fault.ReaderFault.{ReaderFault}
 use Rattle.records.specs.declared.fault.ReaderFault.TheVariants as reader
-use Rattle.records.specs.Reading.{with_record}
 use Rattle.records.proofs.Checking.{first_passes}
 use Rattle.job_calls.specs.Calling.{RefusedAt}
 
@@ -43,10 +43,6 @@ map_passes w h t n e =
     let tile = tile_of w h a.0 in
     (mul-pos tile.some_width tile.some_height, eqb-true n (w * h) c.0)
 
-pub with_none : {V : Type 0} (n : ℕ) (r : Result V BenchFault) (v : V) → Ok v ≡ with_record n r → r ≡ Ok v
-with_none n (Ok w) v e = cc
-with_none n (Err f) v e = let z : ◌≡◌ {A = ℕ} 0 1 = cc in absurd (omega arith)
-
 module _ (j : Judgement ℕ) (map : Map ℕ) (values : List ℕ) (w h t : ℕ) (shows : window_of map ≡ window values w h t) (some : 0 < w * h) (count : ℕ) (fits : count ≡ w * h) where
   area : pixels_of map ≡ w * h
   area = ap (λ (v : Window ℕ). v.width * v.height) shows
@@ -65,24 +61,21 @@ module _ (j : Judgement ℕ) (map : Map ℕ) (values : List ℕ) (w h t : ℕ) (
       ∙ found_is (inadmissible j map)
       ∙ ap found first
 
-  -- a seated picture lies on admitted values
-  pub admitted : (r : Result Bench BenchFault) (n : ℕ) (b : Bench) → result_err r ≡ first_fault (seat_checks j map count) → Ok b ≡ with_record n r → FirstNot j.admits values None
-  admitted (Ok c) n b e q = subst (FirstNot j.admits values) (none_found (first_not j.admits values) (e ∙ checks)) (first_not_is j.admits values)
-  admitted (Err f) n b e q = let z : ◌≡◌ {A = ℕ} 0 1 = cc in absurd (omega arith)
-
-  -- and a refusal says which value is not
-  pub refused_at : (r : Result Bench BenchFault) (n : ℕ) (f : BenchFault × ℕ) → result_err r ≡ first_fault (seat_checks j map count) → Err f ≡ with_record n r →
-      RefusedAt n (λ i. FirstNot j.admits values (Some i)) (reader.Bench f.0 f.1)
-  refused_at (Ok c) n f e q = let z : ◌≡◌ {A = ℕ} 0 1 = cc in absurd (omega arith)
-  refused_at (Err g) n f e q = at (first_not j.admits values) refl (e ∙ checks)
+  -- a seated picture lies on admitted values, and a refusal says which value is not
+  pub admission : (r : Result Bench BenchFault) (q : Result Bench ReaderFault) (n : ℕ) → result_err r ≡ first_fault (seat_checks j map count) →
+      MatchResult r (λ b. q ≡ Ok b) (λ f. IsErrAnd q (λ g. g ≡ reader.Bench f n)) →
+      MatchResult q (λ _. FirstNot j.admits values None) (RefusedAt n (λ i. FirstNot j.admits values (Some i)))
+  admission (Ok c) (Ok b) n e m = subst (FirstNot j.admits values) (none_found (first_not j.admits values) (e ∙ checks)) (first_not_is j.admits values)
+  admission (Ok c) (Err f) n e m = let z : ◌≡◌ {A = ℕ} 0 1 = cc in absurd (omega arith)
+  admission (Err g) (Ok b) n e m = absurd m
+  admission (Err g) (Err f) n e m = at (first_not j.admits values) refl (e ∙ checks)
     where
-      at : (o : Option ℕ) → first_not j.admits values ≡ o → Some g ≡ found o → RefusedAt n (λ i. FirstNot j.admits values (Some i)) (reader.Bench f.0 f.1)
+      at : (o : Option ℕ) → first_not j.admits values ≡ o → Some g ≡ found o → RefusedAt n (λ i. FirstNot j.admits values (Some i)) f
       at None p s = let z : ◌≡◌ {A = ℕ} 0 1 = cc in absurd (omega arith)
       at (Some i) p s =
-          let pair : f ≡ (g, n) = cc in
           let which : g ≡ fault.Map (Inadmissible i) = cc in
           record {
             pixel = i;
             found = subst (FirstNot j.admits values) p (first_not_is j.admits values);
-            is = ap (λ (x : BenchFault × ℕ). reader.Bench x.0 x.1) pair ∙ ap (λ x. reader.Bench x n) which;
+            is = m ∙ ap (λ x. reader.Bench x n) which;
           }

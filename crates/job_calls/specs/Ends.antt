@@ -1,12 +1,16 @@
 -- What the work on a job comes to. Assumes nothing.
-use Rattle.std.specs.Prelude.{◌≡◌, ℕ, ◌+◌, ◌≤◌, List, ◌++◌, length, take, pos, Ok, Err, Result}
+use Rattle.std.specs.Prelude.{◌≡◌, ℕ, ◌+◌, ◌≤◌, List, ◌++◌, length, take, pos, None, Ok, Err, Result}
 use Rattle.bench.specs.declared.bench.Bench.{Bench}
 use Rattle.bench.specs.Settings.{standing}
 use Rattle.bench.specs.Calls.{Answer}
 use Rattle.records.specs.declared.records.Head.{Head}
-use Rattle.job_calls.specs.declared.stop.Stop.{Stop}
-use Rattle.job_calls.specs.declared.stop.Stop.TheVariants.{Fault, Memory}
-use Rattle.job_calls.specs.Jobs.{Job, pixels, tile_records, records_of, Tile, Sound}
+use Rattle.records.specs.declared.stop.Stop.{Stop}
+use Rattle.records.specs.declared.stop.Stop.TheVariants.{Fault, Memory}
+use Rattle.records.specs.declared.place.Place.{Place}
+use Rattle.records.specs.declared.place.Place.TheVariants.{Calls}
+use Rattle.records.specs.Records.{pixels}
+use Rattle.records.specs.Jobs.{Job, tile_records, records_of, Tile, Sound}
+use Rattle.job_calls.specs.Stops.{Stops}
 use Rattle.job_calls.specs.Made.{Made}
 use Rattle.job_calls.specs.Lines.{line_of_fault, call_lines}
 use Rattle.job_calls.specs.Prints.{Ending, Prints}
@@ -17,6 +21,12 @@ pub record Taken (records : List (List ℕ)) (n : ℕ) (h : Head) (map grey : Li
   pub number : n ≡ pixels h + 1
   pub within : n ≤ length records
   pub front : take n records ≡ tile_records h map grey
+
+-- What came of the first records of a job: its tile, with its head and the number of its records, and the reader is at the calls on it; or a fault ends the job before that; or memory is wanting.
+abbrev pub TakesTile : List (List ℕ) → ℕ → Result (Head × ℕ) Stop → Place → List ℕ → List ℕ → Type 0
+TakesTile records left (Ok t) p map grey = Taken records t.1 t.0 map grey × (p ≡ Calls t.0)
+TakesTile records left (Err (Fault f)) p map grey = Stops records left None f
+TakesTile records left (Err (Memory e)) p map grey = Unit {0}
 
 -- The records are a sound job with this head and these grey bytes, and all its calls are made: the bench and the picture that they left, and their lines.
 pub record Filters (records : List (List ℕ)) (left : ℕ) (h : Head) (grey : List ℕ) (b : Bench) (picture text : List ℕ) : Type 0 where

@@ -3,11 +3,12 @@ use Rattle.std.specs.Prelude.{◌≡◌, ℕ, ◌<◌, List, ◌++◌, pos, Opti
 use Rattle.bench.specs.Settings.{Standing}
 use Rattle.bench.specs.Calls.{Answer}
 use Rattle.records.specs.declared.fault.ReaderFault.{ReaderFault}
-use Rattle.job_calls.specs.Jobs.{Job, job_bytes, Sound}
+use Rattle.records.specs.Jobs.{Job, job_bytes, Sound}
 use Rattle.job_calls.specs.Stops.{Stops}
 use Rattle.job_calls.specs.Made.{Made}
 use Rattle.job_calls.specs.Lines.{line_of_fault, call_lines}
-use Rattle.job_calls.specs.Prints.{Ending, closing_text, records_in, left_over, Printed}
+use Rattle.job_calls.specs.Prints.{Ending, closing_text, Printed}
+use Rattle.records.specs.Jobs.{records_in, left_over}
 
 -- each is a byte
 abbrev pub Bytes : List ℕ → Type 0

@@ -1,4 +1,3 @@
-pub mod Jobs
 pub mod Reading
 pub mod Stops
 pub mod Made

@@ -10,7 +10,7 @@ use Rattle.bench.specs.Settings.{Setting, setting, Standing, standing, Asked}
 use Rattle.bench.specs.Calls.{Answer, Run}
 use Rattle.bench.specs.Laws.{Lawful, Seated}
 use Rattle.records.specs.Reading.{judged}
-use Rattle.job_calls.specs.Jobs.{Job}
+use Rattle.records.specs.Jobs.{Job}
 
 -- what a call of a job is asked: the job's own scratch has 4,096 entries each
 abbrev pub asked : Call → Asked

@@ -1,6 +1,5 @@
 -- What a job prints. Assumes nothing.
-use Rattle.std.specs.Prelude.{◌≡◌, ℕ, ◌/◌, ◌%◌, List, ◌++◌, length, pos, Some, None}
-use Rattle.std.specs.Simd.{first_chunks}
+use Rattle.std.specs.Prelude.{◌≡◌, ℕ, List, ◌++◌, pos, Some, None}
 use Rattle.scales.specs.Grey.{grey_gap}
 use Rattle.morphology.specs.declared.calls.Levels.{Levels}
 use Rattle.bench.specs.Residues.{gap_sum}
@@ -9,7 +8,7 @@ use Rattle.bench.specs.Calls.{Answer}
 use Rattle.records.specs.declared.fault.ReaderFault.{ReaderFault}
 use Rattle.records.specs.declared.records.Head.{Head}
 use Rattle.lines.specs.Lines.{rows_text}
-use Rattle.job_calls.specs.Jobs.{Job, records_of, Sound}
+use Rattle.records.specs.Jobs.{Job, records_of, records_in, left_over, Sound}
 use Rattle.job_calls.specs.Stops.{Stops}
 use Rattle.job_calls.specs.Made.{Made}
 use Rattle.job_calls.specs.Lines.{line_of_fault, call_lines, note_line, differing, inclusions_text}
@@ -32,14 +31,6 @@ pub data Prints (ending : Ending) (records : List (List ℕ)) (left : ℕ) (text
   -- a fault among the calls: a line for each call before it, then the fault's
   broken_off : {j : Job} {answers : List Answer} {after : Standing ℕ} {f : ReaderFault} → Stops records left (Some j) f → Made j answers after →
       text ≡ call_lines (pos 0) j.calls answers ++ line_of_fault f → Prints ending records left text
-
--- the records of a job are its runs of eight bytes
-abbrev pub records_in : List ℕ → List (List ℕ)
-records_in bs = first_chunks 8 (length bs / 8) bs
-
--- how many bytes are left over after them
-abbrev pub left_over : List ℕ → ℕ
-left_over bs = length bs % 8
 
 -- what these bytes print
 abbrev pub Printed : Ending → List ℕ → List ℕ → Type 0

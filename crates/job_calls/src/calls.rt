@@ -1,34 +1,30 @@
 // The calls of a job, made on the bench.
-ghost use Rattle.std.specs.Prelude.{◌≡◌, ◌+◌, ◌^◌, ◌<◌, length, Err, string_bytes, MatchResult};
+ghost use Rattle.std.specs.Prelude.{◌≡◌, ◌+◌, ◌^◌, ◌<◌, true, length, Err, string_bytes, MatchResult};
 ghost use Rattle.scales.specs.Grey as scales;
 ghost use Rattle.bench.specs.Settings.{standing, calling};
 ghost use Rattle.bench.specs.Calls.{Filtered};
-ghost use Rattle.records.specs.declared.place.State.TheVariants as state;
 ghost use Rattle.records.specs.Reading.{taken};
-ghost use Rattle.job_calls.specs.Jobs.{call_record};
+ghost use Rattle.records.specs.Jobs.{call_record};
 ghost use Rattle.job_calls.specs.Made.{asked, grey_setting};
 ghost use Rattle.job_calls.specs.Lines.{number_of_answer};
-ghost use Rattle.job_calls.specs.Calling.{Tried, Went};
+ghost use Rattle.job_calls.specs.Calling.{takes_calls, Tried, Went};
 
 use crate::call_line::CallLine;
-use crate::stop::Stop;
 use bench::{Bench, BenchFault};
-use criteria::Criterion;
+use criteria::{Code, Criterion};
 use maps::Map;
 use morphology::Operation;
-use records::{Reader, ReaderFault, Record};
-use std::alloc::AllocError;
+use records::{Reader, ReaderFault, Record, Stop};
 
 // Takes a C.
 fn take_call(
-    reader: &mut Reader,
+    mut reader: Reader,
     number: usize,
     bytes: &[u8; 8],
 ) -> Result<(Operation, u8), ReaderFault>
-    requires { reader.old.place.state ≡ state.Calls }
-    ensures answer { MatchResult result (λ c. bytes.now ≡ call_record (calling c.0 c.1))
-        (λ f. taken number state.Calls reader.old.place.next bytes.now ≡ Err f) }
-    ensures place { reader.new.place ≡ reader.old.place }
+    requires { takes_calls reader.place ≡ true }
+    ensures { MatchResult result (λ c. bytes.now ≡ call_record (calling c.0 c.1))
+        (λ f. taken number reader.place bytes.now ≡ Err f) }
 {
     match reader.take(number, bytes)? {
         Record::Call(operation, size) => Ok((operation, size)),
@@ -62,13 +58,13 @@ fn answer_number(answer: Result<i8, BenchFault>) -> u8
 {
     match answer {
         Ok(_) => 0,
-        Err(fault) => fault.code().number,
+        Err(fault) => Code::from(fault).number,
     }
 }
 
 // Takes a C, makes its call and adds its line.
 fn make_call<C: Criterion<Value = u8>>(
-    reader: &mut Reader,
+    reader: Reader,
     number: usize,
     bytes: &[u8; 8],
     bench: &mut Bench,
@@ -77,12 +73,11 @@ fn make_call<C: Criterion<Value = u8>>(
     picture: &mut [u8],
     text: &mut String,
 ) -> Result<(), Stop>
-    requires { reader.old.place.state ≡ state.Calls }
-    ensures tried { Tried (grey_setting (C.judgement criterion.now) map.now)
-        number reader.old.place.next bytes.now
+    requires { takes_calls reader.place ≡ true }
+    ensures { Tried (grey_setting (C.judgement criterion.now) map.now)
+        number reader.place bytes.now
         (standing bench.old picture.old) (string_bytes text.old)
         result (standing bench.new picture.new) (string_bytes text.new) }
-    ensures place { reader.new.place ≡ reader.old.place }
 {
     let (operation, size) = take_call(reader, number, bytes)?;
     let answer = filter(operation, size, bench, map, criterion, picture);
@@ -99,7 +94,7 @@ fn make_call<C: Criterion<Value = u8>>(
 
 // Makes the calls of the records from number `first` on, until the end, which has so many bytes left over.
 pub(crate) fn make_calls<C: Criterion<Value = u8>>(
-    reader: &mut Reader,
+    reader: Reader,
     first: usize,
     records: &[[u8; 8]],
     left: usize,
@@ -109,13 +104,12 @@ pub(crate) fn make_calls<C: Criterion<Value = u8>>(
     picture: &mut [u8],
     text: &mut String,
 ) -> Result<(), Stop>
-    requires state { reader.old.place.state ≡ state.Calls }
+    requires calls { takes_calls reader.place ≡ true }
     requires numbers { first + length records.now < 2 ^ 64 }
-    ensures went { Went (grey_setting (C.judgement criterion.now) map.now)
-        first reader.old.place.next records.now left
+    ensures { Went (grey_setting (C.judgement criterion.now) map.now)
+        first reader.place records.now left
         (standing bench.old picture.old) (string_bytes text.old)
         result (standing bench.new picture.new) (string_bytes text.new) }
-    ensures place { reader.new.place ≡ reader.old.place }
 {
     for (index, bytes) in records.iter().enumerate() {
         make_call(

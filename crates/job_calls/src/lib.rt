@@ -6,7 +6,6 @@ mod calls;
 mod note_line;
 mod reporting;
 mod seating;
-mod stop;
 mod theorems;
 mod tile;
 mod view;

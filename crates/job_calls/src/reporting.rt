@@ -1,36 +1,35 @@
 // What a job prints.
 ghost use Rattle.std.specs.Prelude.{◌≡◌, [], IfOk, string_bytes};
+ghost use Rattle.records.specs.Jobs.{records_in, left_over};
 ghost use Rattle.records.specs.Reading.{judged};
-ghost use Rattle.records.specs.declared.place.State.TheVariants as state;
+ghost use Rattle.records.specs.declared.place.Place.TheVariants as place;
 ghost use Rattle.job_calls.specs.Ends.{Taken, AfterCalls, Ends};
-ghost use Rattle.job_calls.specs.Jobs.{pixels};
-ghost use Rattle.job_calls.specs.Prints.{Ending, records_in, left_over, Printed, rows_and_note, inclusions};
+ghost use Rattle.job_calls.specs.Prints.{Ending, Printed, rows_and_note, inclusions};
 
 use crate::calls::make_calls;
 use crate::seating::seat_at;
-use crate::stop::Stop;
 use crate::tile::read_tile;
 use crate::view::{Done, Inclusions, RowsAndNote, View};
-use bench::Bench;
-use criteria::{Criterion, Step, Tone, Turn};
+use bench::{Bench, BenchFault};
+use criteria::{Code, Criterion};
 use lines::FaultText;
 use maps::Map;
-use records::{Reader, Shape};
+use records::{Head, Reader, ReaderFault, Stop, Tile};
 use std::alloc::{AllocError, Global};
 
-// A tile that was taken from the front of a job: the reader after it, the job's records and how many of them are the tile's, the
-// bytes left over after all records, and the tile's map bytes and grey bytes.
+// A tile that was taken from the front of a job: the reader after it, its head, the job's records and how many of them are the
+// tile's, the bytes left over after all records, and the tile's map bytes and grey bytes.
 #[derive(Clone, Copy)]
 struct TakenTile<'a> {
     reader: Reader,
+    head: Head,
     records: &'a [[u8; 8]],
     taken: usize,
     left: usize,
     map: &'a [u8],
     grey: &'a [u8],
-    ghost tile: { Taken records.now taken reader.place.head map.now grey.now },
-    ghost calls: { reader.place.state ≡ state.Calls },
-    ghost next: { reader.place.next ≡ pixels reader.place.head },
+    ghost tile: { Taken records.now taken head map.now grey.now },
+    ghost calls: { reader.place ≡ place.Calls head },
 }
 
 impl TakenTile<'_> {
@@ -41,19 +40,24 @@ impl TakenTile<'_> {
         picture: &mut [u8],
         text: &mut String,
     ) -> Result<Bench, Stop>
-        requires judged { C.judgement criterion.now ≡ judged self.now.reader.place.head }
+        requires judged { C.judgement criterion.now ≡ judged self.now.head }
         requires picture { picture.old ≡ self.now.grey.now }
         requires text { string_bytes text.old ≡ [] }
         ensures { (ending : Ending) → AfterCalls ending self.now.records.now self.now.left
-            self.now.reader.place.head self.now.grey.now result picture.new (string_bytes text.new) }
+            self.now.head self.now.grey.now result picture.new (string_bytes text.new) }
     {
         let taken = self.taken;
-        let mut reader = self.reader;
-        let head = reader.place().head;
         let mut map = Map::empty();
-        let mut bench = seat_at(taken - 1, head, criterion, &mut map, self.map, picture)?;
+        let mut bench = seat_at(
+            taken - 1,
+            self.head,
+            criterion,
+            &mut map,
+            self.map,
+            picture,
+        )?;
         make_calls(
-            &mut reader,
+            self.reader,
             taken,
             &self.records[taken..],
             self.left,
@@ -66,32 +70,20 @@ impl TakenTile<'_> {
         Ok(bench)
     }
 
-    // The same, by the criterion that the tile's head asks for.
-    fn filter_by_shape(&self, picture: &mut [u8], text: &mut String) -> Result<Bench, Stop>
-        requires picture { picture.old ≡ self.now.grey.now }
-        requires text { string_bytes text.old ≡ [] }
-        ensures { (ending : Ending) → AfterCalls ending self.now.records.now self.now.left
-            self.now.reader.place.head self.now.grey.now result picture.new (string_bytes text.new) }
-    {
-        let head = self.reader.place().head;
-        let tolerance = head.shape.tolerance(head.limit);
-        match head.shape {
-            Shape::Step => self.filter(&Step::new(tolerance)?, picture, text),
-            Shape::Tone => self.filter(&Tone::new(tolerance)?, picture, text),
-            Shape::Turn => self.filter(&Turn::new(tolerance)?, picture, text),
-        }
-    }
-
-    // Filters a copy of the tile, and adds the lines of its calls and the ending.
+    // Filters a copy of the tile by the criterion that its head asks for, and adds the lines of its calls and the ending.
     fn finish<V: View>(&self, heap: Global, text: &mut String) -> Result<(), Stop>
         requires { string_bytes text.old ≡ [] }
         ensures { Ends V.ending self.now.records.now self.now.left result (string_bytes text.new) }
     {
+        let criterion = self
+            .head
+            .criterion()
+            .map_err(|fault| ReaderFault::Bench(BenchFault::Map(fault), 0))?;
         let mut picture = self.grey.to_vec(heap)?;
-        let bench = self.filter_by_shape(&mut picture, text)?;
+        let bench = self.filter(&criterion, &mut picture, text)?;
         let levels = bench.levels();
         let done = Done {
-            head: self.reader.place().head,
+            head: self.head,
             taken: self.grey,
             filtered: &picture,
             levels,
@@ -107,20 +99,19 @@ fn run<V: View>(heap: Global, job: &[u8], text: &mut String) -> Result<(), Stop>
     requires { string_bytes text.old ≡ [] }
     ensures { Ends V.ending (records_in job.now) (left_over job.now) result (string_bytes text.new) }
 {
-    let mut map = [0u8; 4096];
-    let mut picture = [0u8; 4096];
     let (records, torn) = job.as_chunks::<8>();
     let left = torn.len();
     let mut reader = Reader::new();
-    let taken = read_tile(&mut reader, records, left, &mut map, &mut picture)?;
-    let count = reader.place().count;
+    let mut bytes = Tile::new(heap);
+    let (head, taken) = read_tile(&mut reader, records, left, &mut bytes)?;
     let tile = TakenTile {
         reader,
+        head,
         records,
         taken,
         left,
-        map: &map[..count],
-        grey: &picture[..count],
+        map: &bytes.map,
+        grey: &bytes.picture,
     };
     tile.finish::<V>(heap, text)
 }
@@ -134,7 +125,7 @@ fn print<V: View>(heap: Global, job: &[u8]) -> Result<String, AllocError>
         Ok(()) => Ok(text),
         Err(Stop::Fault(fault)) => {
             let fault = FaultText {
-                code: fault.code(),
+                code: Code::from(fault),
                 at: fault.added_record(),
             };
             writeln!(text, "{fault}")?;

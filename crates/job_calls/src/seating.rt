@@ -11,7 +11,7 @@ ghost use Rattle.job_calls.specs.Calling.{RefusedAt};
 use bench::{Bench, BenchFault};
 use criteria::Criterion;
 use maps::Map;
-use records::{Head, ReaderFault, at};
+use records::{Head, ReaderFault};
 
 // Makes the map of a head on these values.
 fn lay<'a>(map: &mut Map<'a, u8>, head: Head, values: &'a [u8]) -> Result<(), BenchFault>
@@ -20,8 +20,8 @@ fn lay<'a>(map: &mut Map<'a, u8>, head: Head, values: &'a [u8]) -> Result<(), Be
     ensures window { window_of map.new ≡ window values.now head.width head.height head.joining }
 {
     map.make(
-        head.width as usize,
-        head.height as usize,
+        usize::from(head.width),
+        usize::from(head.height),
         head.joining,
         values,
     )?;
@@ -44,7 +44,6 @@ pub(crate) fn seat_at<'a, C: Criterion<Value = u8>>(
     ensures admitted { MatchResult result (λ _. FirstNot (C.judgement criterion.now).admits values.now None)
         (RefusedAt number (λ i. FirstNot (C.judgement criterion.now).admits values.now (Some i))) }
 {
-    at(number, lay(map, head, values))?;
-    let bench = at(number, bench::seat(&*map, criterion, picture))?;
-    Ok(bench)
+    lay(map, head, values).map_err(|fault| ReaderFault::Bench(fault, number))?;
+    bench::seat(&*map, criterion, picture).map_err(|fault| ReaderFault::Bench(fault, number))
 }

@@ -1,6 +1,6 @@
 // What is printed of a job whose calls are all made.
 ghost use Rattle.std.specs.Prelude.{◌≡◌, ◌<◌, ◌≤◌, length, string_bytes};
-ghost use Rattle.job_calls.specs.Jobs.{pixels};
+ghost use Rattle.records.specs.Records.{pixels};
 ghost use Rattle.job_calls.specs.Lines.{Appends, differing};
 ghost use Rattle.job_calls.specs.Prints.{Ending, rows_and_note, inclusions};
 

@@ -21,7 +21,7 @@ impl fmt::Display for FaultText {
             number,
             place,
         } = self.code;
-        write!(f, "fault {} {number} {place}", layer.letter())?;
+        write!(f, "fault {} {number} {place}", char::from(layer))?;
         match self.at {
             Some(at) => write!(f, " at {at}"),
             None => Ok(()),

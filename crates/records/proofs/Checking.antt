@@ -1,12 +1,14 @@
 -- Checks in a stated order, here and in the layers below. Assumes nothing.
-use Rattle.std.proofs.Common.{◌≡◌, ℕ, Bool, true, false, cond, List, [], ◌∷◌, Some, None, Ok, Err, Option, Result, sym, refl, ap, ◌∙◌, arith}
+use Rattle.std.proofs.Common.{◌≡◌, ℕ, Bool, true, false, cond, List, [], ◌∷◌, Some, None, Ok, Err, Option, sym, refl, ap, ◌∙◌, arith}
 use Rattle.criteria.specs.declared.fault.MapFault.{MapFault}
 use Rattle.maps.specs.Checks.{Check, first_fault, answered}
+use Rattle.maps.proofs.Answering.{no_fault}
+use Rattle.bench.proofs.Passing.{the_fault}
 use Rattle.bench.specs.declared.fault.BenchFault.{BenchFault}
 use Rattle.bench.specs.declared.fault.BenchFault.TheVariants.{Map}
 use Rattle.records.specs.declared.fault.ReaderFault.{ReaderFault}
 use Rattle.records.specs.declared.fault.ReaderFault.TheVariants.{Bench}
-use Rattle.records.specs.Reading.{through_bench, with_record, from_below}
+use Rattle.records.specs.Reading.{through_bench, from_below}
 
 pub none≢some : {A : Type 0} {a : A} → None ≡ Some a → ⊥
 none≢some e = let z : ◌≡◌ {A = ℕ} 0 1 = cc in omega arith
@@ -43,19 +45,16 @@ passes_below n cs e = untravelled (first_fault cs) (sym (from_below_is n cs) ∙
     untravelled None e = refl
     untravelled (Some f) e = absurd (none≢some (sym e))
 
-err_same : {V F : Type 0} {a b : F} → ◌≡◌ {A = Result V F} (Err a) (Err b) → a ≡ b
-err_same e = cc
-
--- what passes below passes with the record number beside it
-pub reported : {V : Type 0} (n : ℕ) (o : Option MapFault) (v w : V) → with_record n (answered (through_bench o) v) ≡ Ok w → (o ≡ None) × (v ≡ w)
-reported n None v w e = (refl, cc)
-reported n (Some f) v w e = let z : ◌≡◌ {A = ℕ} 0 1 = cc in absurd (omega arith)
-
--- what is refused below is refused here by the same fault
-pub carried : {V : Type 0} (n : ℕ) (cs : List (Check MapFault)) (v : V) (f : BenchFault) (m : ℕ) →
-    with_record n (answered (through_bench (first_fault cs)) v) ≡ Err (f, m) → first_fault (from_below n cs) ≡ Some (Bench f m)
-carried n cs v f m e = from_below_is n cs ∙ by (first_fault cs) e
+-- what is refused below is refused here by the same fault, with the record number
+pub carried : {V : Type 0} (n : ℕ) (cs : List (Check MapFault)) (v : V) (f : BenchFault) →
+    Err f ≡ answered (through_bench (first_fault cs)) v → first_fault (from_below n cs) ≡ Some (Bench f n)
+carried n cs v f e = from_below_is n cs ∙ by (first_fault cs) (the_fault (through_bench (first_fault cs)) v e)
   where
-    by : (o : Option MapFault) → with_record n (answered (through_bench o) v) ≡ Err (f, m) → travelled n o ≡ Some (Bench f m)
-    by None e = let z : ◌≡◌ {A = ℕ} 0 1 = cc in absurd (omega arith)
-    by (Some g) e = ap (λ q. Some (Bench q.0 q.1)) (err_same e)
+    by : (o : Option MapFault) → through_bench o ≡ Some f → travelled n o ≡ Some (Bench f n)
+    by None e = absurd (none≢some e)
+    by (Some g) e = ap (λ q. Some (Bench q n)) (some_same e)
+
+-- what is answered below found nothing
+pub reported : {V : Type 0} (o : Option MapFault) (v : V) {w : V} → Ok w ≡ answered (through_bench o) v → o ≡ None
+reported None v e = refl
+reported (Some f) v e = absurd (none≢some (sym (no_fault (through_bench (Some f)) v e)))

@@ -12,12 +12,12 @@ use Rattle.records.specs.declared.records.Kind.{Kind}
 use Rattle.records.specs.declared.records.Kind.TheVariants as kind
 use Rattle.records.specs.declared.records.Record.{Record}
 use Rattle.records.specs.declared.records.Record.TheVariants as sound
-use Rattle.records.specs.declared.place.State.{State}
-use Rattle.records.specs.declared.place.State.TheVariants as state
+use Rattle.records.specs.declared.place.Place.{Place}
+use Rattle.records.specs.declared.place.Place.TheVariants as place
 use Rattle.records.specs.Records.{byte, shape_of, operation_of, head_kind, call_kind, kind_of, all_zero, filler_of, pixel_number, head_of, record_of}
 use Rattle.records.specs.Reading.{in_turn, head_checks, own_checks, record_checks, content_checks, checked, lettered, taken}
 use Rattle.records.proofs.Checking.{none≢some, some_same, first_passes, passes_here, passes_below}
-use Rattle.records.specs.Encoding.{shape_letter, operation_letter, encoded, Comes, head, pixel, call}
+use Rattle.records.specs.Encoding.{shape_letter, operation_letter, encoded, next_pixel, Comes, head, pixel, call}
 
 -- a Bool by its two cases, with the equation
 split : {C : Type 0} (b : Bool) → (b ≡ true → C) → (b ≡ false → C) → C
@@ -39,11 +39,10 @@ operation_back Close = refl
 digits_back : (i : ℕ) → i % 256 + 256 * (i / 256) ≡ i
 digits_back i = omega arith
 
-pub reads_back : (n : ℕ) (at : State) (next : ℕ) (r : Record) → Comes at r → taken n at next (encoded next r) ≡ Ok r
-reads_back n at next (sound.Head h) (head at_head passes) =
-    rw (shape_back h.shape, at_head, passes_here n (head_checks h) passes) refl
-reads_back n at next (sound.Pixel v g) (pixel at-pixels) = rw (at-pixels, eq-eqb _ _ (digits_back next)) refl
-reads_back n at next (sound.Call o s) (call at_calls) = rw (operation_back o, at_calls) refl
+pub reads_back : (n : ℕ) (p : Place) (r : Record) → Comes p r → taken n p (encoded (next_pixel p) r) ≡ Ok r
+reads_back n p (sound.Head h) (head passes) = rw (shape_back h.shape, passes_here n (head_checks h) passes) refl
+reads_back n p (sound.Pixel v g) (pixel {next = next}) = rw (eq-eqb _ _ (digits_back next)) refl
+reads_back n p (sound.Call o s) call = rw (operation_back o) refl
 
 -- what is found in a list of letters has the letter under which it was found
 listed : {A : Type 0} (letter : A → ℕ) (b : ℕ) (a x : A) (o : Option A) → (o ≡ Some x → b ≡ letter x) → cond (eqb b (letter a)) (Some a) o ≡ Some x → b ≡ letter x
@@ -82,16 +81,16 @@ lettered_by bs k e =
     split (eqb (byte bs 0) 67) (λ v. call_lettered bs _ k (eqb-true _ _ v) refl (rw v at e)) (λ v. let q = rw v at e in absurd (none≢some q))))
 
 -- What is known of a record that was taken: its letters, its turn, its filler, and its own checks.
-record Passed (n : ℕ) (at : State) (next : ℕ) (bs : List ℕ) (k : Kind) : Type 0 where
+record Passed (n : ℕ) (p : Place) (bs : List ℕ) (k : Kind) : Type 0 where
   letters : Lettered bs k
-  turn : in_turn at k next bs ≡ true
+  turn : in_turn p k bs ≡ true
   filler : all_zero bs (filler_of k) ≡ true
   own : first_fault (own_checks n k bs) ≡ None
 
-passed : (n : ℕ) (at : State) (next : ℕ) (bs : List ℕ) (k : Kind) (r : Record) → kind_of bs ≡ Some k → checked (record_checks n at next k bs) k bs ≡ Ok r → Passed n at next bs k × (record_of k bs ≡ r)
-passed n at next bs k r q e =
-    let found = first_fault (record_checks n at next k bs) in
-    let b = first_passes (in_turn at k next bs) (first_fault (content_checks n k bs)) _ (no_fault found (record_of k bs) (sym e)) in
+passed : (n : ℕ) (p : Place) (bs : List ℕ) (k : Kind) (r : Record) → kind_of bs ≡ Some k → checked (record_checks n p k bs) k bs ≡ Ok r → Passed n p bs k × (record_of k bs ≡ r)
+passed n p bs k r q e =
+    let found = first_fault (record_checks n p k bs) in
+    let b = first_passes (in_turn p k bs) (first_fault (content_checks n k bs)) _ (no_fault found (record_of k bs) (sym e)) in
     let c = first_passes (all_zero bs (filler_of k)) (first_fault (own_checks n k bs)) _ b.1 in
     (record { letters = lettered_by bs k q; turn = b.0; filler = c.0; own = c.1 }, sym (the_value found (record_of k bs) (sym e)))
 
@@ -108,44 +107,40 @@ eight (a ∷ b ∷ c ∷ d ∷ f ∷ g ∷ h ∷ []) e = absurd (omega arith)
 eight (a ∷ b ∷ c ∷ d ∷ f ∷ g ∷ h ∷ i ∷ []) e = refl
 eight (a ∷ b ∷ c ∷ d ∷ f ∷ g ∷ h ∷ i ∷ j ∷ more) e = absurd (omega arith)
 
--- the state in which a record of this kind comes in turn
-head_turn : (s : State) (h : Shape) (next : ℕ) (bs : List ℕ) → in_turn s (kind.Head h) next bs ≡ true → s ≡ state.Head
-head_turn state.Head h next bs e = refl
-head_turn state.Pixels h next bs e = absurd (true≢false (sym e))
-head_turn state.Calls h next bs e = absurd (true≢false (sym e))
+comes : (n : ℕ) (p : Place) (bs : List ℕ) (k : Kind) → Passed n p bs k → Comes p (record_of k bs)
+comes n place.Head bs (kind.Head s) a = head (passes_below n (head_checks (head_of s bs)) a.own)
+comes n (place.Pixels h next) bs (kind.Head s) a = absurd (true≢false (sym a.turn))
+comes n (place.Calls h) bs (kind.Head s) a = absurd (true≢false (sym a.turn))
+comes n place.Head bs kind.Pixel a = absurd (true≢false (sym a.turn))
+comes n (place.Pixels h next) bs kind.Pixel a = pixel
+comes n (place.Calls h) bs kind.Pixel a = absurd (true≢false (sym a.turn))
+comes n place.Head bs (kind.Call o) a = absurd (true≢false (sym a.turn))
+comes n (place.Pixels h next) bs (kind.Call o) a = absurd (true≢false (sym a.turn))
+comes n (place.Calls h) bs (kind.Call o) a = call
 
-pixel_turn : (s : State) (next : ℕ) (bs : List ℕ) → in_turn s kind.Pixel next bs ≡ true → (s ≡ state.Pixels) × (pixel_number bs ≡ next)
-pixel_turn state.Head next bs e = absurd (true≢false (sym e))
-pixel_turn state.Pixels next bs e = (refl, eqb-true _ _ e)
-pixel_turn state.Calls next bs e = absurd (true≢false (sym e))
-
-call_turn : (s : State) (o : Operation) (next : ℕ) (bs : List ℕ) → in_turn s (kind.Call o) next bs ≡ true → s ≡ state.Calls
-call_turn state.Head o next bs e = absurd (true≢false (sym e))
-call_turn state.Pixels o next bs e = absurd (true≢false (sym e))
-call_turn state.Calls o next bs e = refl
-
-comes : (n : ℕ) (at : State) (next : ℕ) (bs : List ℕ) (k : Kind) → Passed n at next bs k → Comes at (record_of k bs)
-comes n at next bs (kind.Head s) a = head (head_turn at s next bs a.turn) (passes_below n (head_checks (head_of s bs)) a.own)
-comes n at next bs kind.Pixel a = pixel (pixel_turn at next bs a.turn).0
-comes n at next bs (kind.Call o) a = call (call_turn at o next bs a.turn)
+-- the number of a P that comes in turn
+pixel_turn : (p : Place) (bs : List ℕ) → in_turn p kind.Pixel bs ≡ true → pixel_number bs ≡ next_pixel p
+pixel_turn place.Head bs e = absurd (true≢false (sym e))
+pixel_turn (place.Pixels h next) bs e = eqb-true _ _ e
+pixel_turn (place.Calls h) bs e = absurd (true≢false (sym e))
 
 zero_at : (i : ℕ) (is bs : List ℕ) → all_zero bs (i ∷ is) ≡ true → (byte bs i ≡ 0) × (all_zero bs is ≡ true)
 zero_at i is bs e = let q = and_parts (eqb (byte bs i) 0) (all_zero bs is) e in (eqb-true _ _ q.0, q.1)
 
-written : (n : ℕ) (at : State) (next : ℕ) (bs : List ℕ) (k : Kind) → length bs ≡ 8 → byte bs 1 < 256 → Passed n at next bs k → bs ≡ encoded next (record_of k bs)
-written n at next bs (kind.Head s) len small a =
+written : (n : ℕ) (p : Place) (bs : List ℕ) (k : Kind) → length bs ≡ 8 → byte bs 1 < 256 → Passed n p bs k → bs ≡ encoded (next_pixel p) (record_of k bs)
+written n p bs (kind.Head s) len small a =
     let z6 = zero_at 6 (7 ∷ []) bs a.filler in
     let z7 = zero_at 7 [] bs z6.1 in
     elim a.letters [ as_head b0 b4 ↦ let all = eight bs len in cc ]
-written n at next bs kind.Pixel len small a =
+written n p bs kind.Pixel len small a =
     let z5 = zero_at 5 (6 ∷ 7 ∷ []) bs a.filler in
     let z6 = zero_at 6 (7 ∷ []) bs z5.1 in
     let z7 = zero_at 7 [] bs z6.1 in
-    let turn = pixel_turn at next bs a.turn in
-    let low : byte bs 1 ≡ next % 256 = omega (arith, small, turn.1) in
-    let high : byte bs 2 ≡ next / 256 = omega (arith, small, turn.1) in
+    let turn = pixel_turn p bs a.turn in
+    let low : byte bs 1 ≡ next_pixel p % 256 = omega (arith, small, turn) in
+    let high : byte bs 2 ≡ next_pixel p / 256 = omega (arith, small, turn) in
     elim a.letters [ as_pixel b0 ↦ let all = eight bs len in cc ]
-written n at next bs (kind.Call o) len small a =
+written n p bs (kind.Call o) len small a =
     let z3 = zero_at 3 (4 ∷ 5 ∷ 6 ∷ 7 ∷ []) bs a.filler in
     let z4 = zero_at 4 (5 ∷ 6 ∷ 7 ∷ []) bs z3.1 in
     let z5 = zero_at 5 (6 ∷ 7 ∷ []) bs z4.1 in
@@ -153,13 +148,13 @@ written n at next bs (kind.Call o) len small a =
     let z7 = zero_at 7 [] bs z6.1 in
     elim a.letters [ as_call b0 b1 ↦ let all = eight bs len in cc ]
 
-onto : (n : ℕ) (at : State) (next : ℕ) (bs : List ℕ) (r : Record) (o : Option Kind) → kind_of bs ≡ o → lettered n at next o bs ≡ Ok r → (k : Kind) × Passed n at next bs k × (record_of k bs ≡ r)
-onto n at next bs r None q e = let z : ◌≡◌ {A = ℕ} 0 1 = cc in absurd (omega arith)
-onto n at next bs r (Some k) q e = let a = passed n at next bs k r q e in (k, a.0, a.1)
+onto : (n : ℕ) (p : Place) (bs : List ℕ) (r : Record) (o : Option Kind) → kind_of bs ≡ o → lettered n p o bs ≡ Ok r → (k : Kind) × Passed n p bs k × (record_of k bs ≡ r)
+onto n p bs r None q e = let z : ◌≡◌ {A = ℕ} 0 1 = cc in absurd (omega arith)
+onto n p bs r (Some k) q e = let a = passed n p bs k r q e in (k, a.0, a.1)
 
-pub only_may_come : (n : ℕ) (at : State) (next : ℕ) (bs : List ℕ) (r : Record) → length bs ≡ 8 → taken n at next bs ≡ Ok r → Comes at r
-only_may_come n at next bs r len e = let a = onto n at next bs r (kind_of bs) refl e in subst (Comes at) a.2 (comes n at next bs a.0 a.1)
+pub only_may_come : (n : ℕ) (p : Place) (bs : List ℕ) (r : Record) → taken n p bs ≡ Ok r → Comes p r
+only_may_come n p bs r e = let a = onto n p bs r (kind_of bs) refl e in subst (Comes p) a.2 (comes n p bs a.0 a.1)
 
-pub only_written : (n : ℕ) (at : State) (next : ℕ) (bs : List ℕ) (r : Record) → length bs ≡ 8 → byte bs 1 < 256 → taken n at next bs ≡ Ok r → bs ≡ encoded next r
-only_written n at next bs r len small e =
-    let a = onto n at next bs r (kind_of bs) refl e in written n at next bs a.0 len small a.1 ∙ ap (encoded next) a.2
+pub only_written : (n : ℕ) (p : Place) (bs : List ℕ) (r : Record) → length bs ≡ 8 → byte bs 1 < 256 → taken n p bs ≡ Ok r → bs ≡ encoded (next_pixel p) r
+only_written n p bs r len small e =
+    let a = onto n p bs r (kind_of bs) refl e in written n p bs a.0 len small a.1 ∙ ap (encoded (next_pixel p)) a.2

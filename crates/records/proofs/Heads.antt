@@ -1,48 +1,25 @@
 -- The checks of an H. Assumes nothing.
-use Rattle.std.proofs.Common.{◌≡◌, ℕ, ◌*◌, ◌<◌, ◌≤◌, true, not, ltb, List, [], ◌∷◌, is_some, Ok, Err, sym, refl, ap, mul-pos, arith}
+use Rattle.std.proofs.Common.{◌≡◌, ◌<◌, true, None, Ok, sym, refl, mul-pos}
 use Rattle.std.proofs.lemmas.Bool.{lt-ltb}
-use Rattle.criteria.specs.declared.fault.MapFault.{MapFault}
-use Rattle.maps.specs.Checks.{first_fault, answered}
-use Rattle.maps.specs.Tiles.{is_tile, tile_checks}
-use Rattle.maps.proofs.Figures.{tile_of}
-use Rattle.bench.specs.declared.fault.BenchFault.{BenchFault}
-use Rattle.bench.specs.declared.fault.BenchFault.TheVariants.{Map}
-use Rattle.bench.proofs.Passing.{stops, the_fault}
-use Rattle.records.specs.declared.fault.ReaderFault.TheVariants.{Bench}
-use Rattle.records.specs.declared.records.Shape.{Shape}
-use Rattle.records.specs.declared.records.Kind.TheVariants as kind
+use Rattle.maps.specs.Checks.{first_fault}
+use Rattle.maps.specs.Tiles.{is_tile}
+use Rattle.maps.proofs.Figures.{tile_of, TileOf}
 use Rattle.records.specs.declared.records.Head.{Head}
-use Rattle.records.specs.Reading.{tolerance_check, head_checks, passes, head_answer, through_bench, with_record, content}
-use Rattle.records.specs.Records.{all_zero, head_of}
-use Rattle.records.proofs.Checking.{first_passes, reported, carried}
+use Rattle.records.specs.declared.place.Place.TheVariants.{Pixels}
+use Rattle.records.specs.Reading.{head_checks, head_answer}
+use Rattle.records.specs.Records.{pixels}
+use Rattle.records.specs.Bounds.{sound}
+use Rattle.records.proofs.Checking.{first_passes, reported}
 
--- a fault of tile or joining is the fault of the H
-pub tile_refused : (h : Head) (f : MapFault) (n : ℕ) → answered (first_fault (tile_checks h.width h.height h.joining)) n ≡ Err f → head_answer h ≡ Err (Map f)
-tile_refused h f n e =
-    let some = stops (tile_checks h.width h.height h.joining) (tolerance_check h ∷ []) (the_fault _ n (sym e)) in
-    ap (λ o. answered (through_bench o) (h.width * h.height)) some
+-- the tile of a head that passes
+pub passing_tile : (h : Head) → first_fault (head_checks h) ≡ None → TileOf h.width h.height
+passing_tile h passes = tile_of h.width h.height (first_passes (is_tile h.width h.height) _ _ passes).0
 
--- An H that passes names a tile: its count of pixels, and the bounds of that.
-pub record Passing (h : Head) (n : ℕ) : Type 0 where
-  pub area : n ≡ h.width * h.height
-  pub small : n ≤ 4096
-  pub sound : passes h ≡ true
-  pub some : ltb 0 n ≡ true
+pub some_pixel : (h : Head) → first_fault (head_checks h) ≡ None → 0 < pixels h
+some_pixel h passes = let t = passing_tile h passes in mul-pos t.some_width t.some_height
 
-pub head_passes : (h : Head) (number n : ℕ) → with_record number (head_answer h) ≡ Ok n → Passing h n
-head_passes h number n e =
-    let w = h.width in
-    let t = h.height in
-    let none = reported number (first_fault (head_checks h)) (w * t) n e in
-    let tile = tile_of w t (first_passes (is_tile w t) _ _ none.0).0 in
-    let least : 0 < w * t = mul-pos tile.some_width tile.some_height in
-    let most = tile.pixels_fit in
-    let area = none.1 in
-    record { area = sym area; small = omega arith; sound = ap (λ o. not (is_some o)) none.0; some = lt-ltb 0 n (omega arith) }
-
--- a fault of the H is the fault of its record
-pub head_refused : (n : ℕ) (s : Shape) (bs : List ℕ) (f : BenchFault) (m : ℕ) →
-    all_zero bs (6 ∷ 7 ∷ []) ≡ true → with_record n (head_answer (head_of s bs)) ≡ Err (f, m) → Err (Bench f m) ≡ content n (kind.Head s) bs
-head_refused n s bs f m z e =
-    let found = carried n (head_checks (head_of s bs)) _ f m e in
-    rw (z, found) refl
+-- an H that is answered passes, and pixel 0 is one of its tile
+pub head_passes : (h : Head) → head_answer h ≡ Ok tt → sound (Pixels h 0) ≡ true
+head_passes h e =
+    let none = reported (first_fault (head_checks h)) tt (sym e) in
+    rw (none, lt-ltb 0 (pixels h) (some_pixel h none)) refl

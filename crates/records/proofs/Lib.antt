@@ -1,3 +1,4 @@
 pub mod Checking
 pub mod Encodings
 pub mod Heads
+pub mod Cuts

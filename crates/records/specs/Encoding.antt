@@ -8,8 +8,8 @@ use Rattle.morphology.specs.declared.calls.Operation.TheVariants.{Dilate, Erode,
 use Rattle.records.specs.declared.records.Head.{Head}
 use Rattle.records.specs.declared.records.Record.{Record}
 use Rattle.records.specs.declared.records.Record.TheVariants as sound
-use Rattle.records.specs.declared.place.State.TheVariants as state
-use Rattle.records.specs.declared.place.State.{State}
+use Rattle.records.specs.declared.place.Place.{Place}
+use Rattle.records.specs.declared.place.Place.TheVariants as place
 use Rattle.records.specs.Records.{byte}
 use Rattle.records.specs.Reading.{head_checks, taken}
 
@@ -32,15 +32,21 @@ encoded i (sound.Head h) = 72 ∷ h.width ∷ h.height ∷ h.joining ∷ shape_l
 encoded i (sound.Pixel v g) = 80 ∷ i % 256 ∷ i / 256 ∷ v ∷ g ∷ 0 ∷ 0 ∷ 0 ∷ []
 encoded i (sound.Call o s) = 67 ∷ operation_letter o ∷ s ∷ 0 ∷ 0 ∷ 0 ∷ 0 ∷ 0 ∷ []
 
--- which records may come in which state: a head that passes, then pixels, then calls
-pub data Comes (at : State) : Record → Type 0 where
-  head : {h : Head} → at ≡ state.Head → first_fault (head_checks h) ≡ None → Comes at (sound.Head h)
-  pixel : {v g : ℕ} → at ≡ state.Pixels → Comes at (sound.Pixel v g)
-  call : {o : Operation} {s : ℕ} → at ≡ state.Calls → Comes at (sound.Call o s)
+-- the pixel that comes next, and 0 where none does
+abbrev pub next_pixel : Place → ℕ
+next_pixel place.Head = 0
+next_pixel (place.Pixels h next) = next
+next_pixel (place.Calls h) = 0
+
+-- which records may come where: a head that passes, then pixels, then calls
+pub data Comes : Place → Record → Type 0 where
+  head : {h : Head} → first_fault (head_checks h) ≡ None → Comes place.Head (sound.Head h)
+  pixel : {h : Head} {next v g : ℕ} → Comes (place.Pixels h next) (sound.Pixel v g)
+  call : {h : Head} {o : Operation} {s : ℕ} → Comes (place.Calls h) (sound.Call o s)
 
 -- Reading and writing are each other's inverse: what may come reads as itself from its bytes, and nothing else is read.
 pub record LawsOfRecords : Type 0 where
-  pub reads_back : (n : ℕ) (at : State) (next : ℕ) (r : Record) → Comes at r → taken n at next (encoded next r) ≡ Ok r
-  pub only_may_come : (n : ℕ) (at : State) (next : ℕ) (bs : List ℕ) (r : Record) → length bs ≡ 8 → taken n at next bs ≡ Ok r → Comes at r
-  pub only_written : (n : ℕ) (at : State) (next : ℕ) (bs : List ℕ) (r : Record) →
-      length bs ≡ 8 → byte bs 1 < 256 → taken n at next bs ≡ Ok r → bs ≡ encoded next r
+  pub reads_back : (n : ℕ) (p : Place) (r : Record) → Comes p r → taken n p (encoded (next_pixel p) r) ≡ Ok r
+  pub only_may_come : (n : ℕ) (p : Place) (bs : List ℕ) (r : Record) → taken n p bs ≡ Ok r → Comes p r
+  pub only_written : (n : ℕ) (p : Place) (bs : List ℕ) (r : Record) →
+      length bs ≡ 8 → byte bs 1 < 256 → taken n p bs ≡ Ok r → bs ≡ encoded (next_pixel p) r

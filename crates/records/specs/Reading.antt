@@ -1,5 +1,5 @@
 -- What the reader takes where. Assumes nothing.
-use Rattle.std.specs.Prelude.{ℕ, ◌+◌, ◌*◌, Bool, true, false, cond, not, List, [], ◌∷◌, ◌++◌, is_some, Some, None, Ok, Err, Option, Result, ◌==◌}
+use Rattle.std.specs.Prelude.{ℕ, ◌+◌, Bool, true, false, cond, not, List, [], ◌∷◌, ◌++◌, is_some, Some, None, Ok, Err, Option, Result, ◌==◌}
 use Rattle.criteria.specs.declared.fault.MapFault.{MapFault}
 use Rattle.criteria.specs.declared.fault.MapFault.TheVariants.{Tolerance}
 use Rattle.criteria.specs.Criteria.{Judgement}
@@ -18,22 +18,21 @@ use Rattle.records.specs.declared.records.Kind.TheVariants as kind
 use Rattle.records.specs.declared.records.Head.{Head}
 use Rattle.records.specs.declared.records.Record.{Record}
 use Rattle.records.specs.declared.records.Record.TheVariants as sound
-use Rattle.records.specs.declared.place.State.{State}
-use Rattle.records.specs.declared.place.State.TheVariants as state
 use Rattle.records.specs.declared.place.Place.{Place}
-use Rattle.records.specs.Records.{kind_of, all_zero, filler_of, pixel_number, tolerance_of, head_of, record_of}
+use Rattle.records.specs.declared.place.Place.TheVariants as place
+use Rattle.records.specs.Records.{kind_of, all_zero, filler_of, pixel_number, tolerance_of, pixels, head_of, record_of}
 
 -- may a record of this kind come here? one H, then a P for each pixel in order, then C until the end
-abbrev pub in_turn : State → Kind → ℕ → List ℕ → Bool
-in_turn state.Head (kind.Head s) next bs = true
-in_turn state.Head kind.Pixel next bs = false
-in_turn state.Head (kind.Call o) next bs = false
-in_turn state.Pixels (kind.Head s) next bs = false
-in_turn state.Pixels kind.Pixel next bs = pixel_number bs == next
-in_turn state.Pixels (kind.Call o) next bs = false
-in_turn state.Calls (kind.Head s) next bs = false
-in_turn state.Calls kind.Pixel next bs = false
-in_turn state.Calls (kind.Call o) next bs = true
+abbrev pub in_turn : Place → Kind → List ℕ → Bool
+in_turn place.Head (kind.Head s) bs = true
+in_turn place.Head kind.Pixel bs = false
+in_turn place.Head (kind.Call o) bs = false
+in_turn (place.Pixels h next) (kind.Head s) bs = false
+in_turn (place.Pixels h next) kind.Pixel bs = pixel_number bs == next
+in_turn (place.Pixels h next) (kind.Call o) bs = false
+in_turn (place.Calls h) (kind.Head s) bs = false
+in_turn (place.Calls h) kind.Pixel bs = false
+in_turn (place.Calls h) (kind.Call o) bs = true
 
 abbrev pub tolerance_check : Head → Check MapFault
 tolerance_check h = record { holds = accepted (tolerance_of h.shape h.limit); fault = Tolerance }
@@ -46,18 +45,13 @@ abbrev pub through_bench : Option MapFault → Option BenchFault
 through_bench None = None
 through_bench (Some f) = Some (Map f)
 
--- a fault with the record number beside it
-abbrev pub with_record : {V : Type 0} → ℕ → Result V BenchFault → Result V (BenchFault × ℕ)
-with_record n (Ok v) = Ok v
-with_record n (Err f) = Err (f, n)
-
 -- an H of which none of these is wrong
 abbrev pub passes : Head → Bool
 passes h = not (is_some (first_fault (head_checks h)))
 
--- the pixels of the tile that an H names, or the fault of the map layer inside one of the bench layer
-abbrev pub head_answer : Head → Result ℕ BenchFault
-head_answer h = answered (through_bench (first_fault (head_checks h))) (h.width * h.height)
+-- that an H passes, or the fault of the map layer inside one of the bench layer
+abbrev pub head_answer : Head → Result (Unit {0}) BenchFault
+head_answer h = answered (through_bench (first_fault (head_checks h))) tt
 
 -- checks of the map layer, at record n: a fault travels up whole, and the reader adds the record number
 abbrev pub from_below : ℕ → List (Check MapFault) → List (Check ReaderFault)
@@ -78,8 +72,8 @@ abbrev pub number_check : ℕ → ℕ → List ℕ → Check ReaderFault
 number_check n next bs = record { holds = (pixel_number bs == next); fault = Order n }
 
 -- the checks of record n once its letters are found listed
-abbrev pub record_checks : ℕ → State → ℕ → Kind → List ℕ → List (Check ReaderFault)
-record_checks n at next k bs = record { holds = in_turn at k next bs; fault = Order n } ∷ content_checks n k bs
+abbrev pub record_checks : ℕ → Place → Kind → List ℕ → List (Check ReaderFault)
+record_checks n p k bs = record { holds = in_turn p k bs; fault = Order n } ∷ content_checks n k bs
 
 -- what a record of this kind says, unless a check finds a fault
 abbrev pub checked : List (Check ReaderFault) → Kind → List ℕ → Result Record ReaderFault
@@ -93,42 +87,40 @@ content n k bs = checked (content_checks n k bs) k bs
 abbrev pub numbered : ℕ → ℕ → List ℕ → Result Record ReaderFault
 numbered n next bs = checked (number_check n next bs ∷ content_checks n kind.Pixel bs) kind.Pixel bs
 
-abbrev pub lettered : ℕ → State → ℕ → Option Kind → List ℕ → Result Record ReaderFault
-lettered n at next None bs = Err (Letter n)
-lettered n at next (Some k) bs = checked (record_checks n at next k bs) k bs
+abbrev pub lettered : ℕ → Place → Option Kind → List ℕ → Result Record ReaderFault
+lettered n p None bs = Err (Letter n)
+lettered n p (Some k) bs = checked (record_checks n p k bs) k bs
 
--- what record n says to a reader in this state, where this pixel comes next, or what is wrong with it
-abbrev pub taken : ℕ → State → ℕ → List ℕ → Result Record ReaderFault
-taken n at next bs = lettered n at next (kind_of bs) bs
+-- what record n says to a reader at p, or what is wrong with it
+abbrev pub taken : ℕ → Place → List ℕ → Result Record ReaderFault
+taken n p bs = lettered n p (kind_of bs) bs
 
--- in place of a head before it is read
-abbrev pub no_head : Head
-no_head = record { width = 0; height = 0; joining = 0; shape = Step; limit = 0 }
+-- where the reader is once pixels up to number i are read: with the last one read, calls come next
+abbrev pub among : Head → ℕ → Place
+among h i = cond (i == pixels h) (place.Calls h) (place.Pixels h i)
 
--- where the reader starts
-abbrev pub start : Place
-start = record { state = state.Head; head = no_head; count = 0; next = 0 }
-
--- where a P leaves the reader: with the last pixel read, calls come next
+-- where a P leaves the reader
 abbrev pub next_place : Place → Place
-next_place p = record { state = cond (p.next + 1 == p.count) state.Calls state.Pixels; head = p.head; count = p.count; next = p.next + 1 }
+next_place place.Head = place.Head
+next_place (place.Pixels h next) = among h (next + 1)
+next_place (place.Calls h) = place.Calls h
 
 -- where a record leaves the reader: a bad one changes nothing
 abbrev pub place_after : Result Record ReaderFault → Place → Place
-place_after (Ok (sound.Head h)) p = record { state = state.Pixels; head = h; count = h.width * h.height; next = 0 }
+place_after (Ok (sound.Head h)) p = place.Pixels h 0
 place_after (Ok (sound.Pixel v g)) p = next_place p
 place_after (Ok (sound.Call o s)) p = p
 place_after (Err f) p = p
 
--- all pixels are read
-abbrev pub done : State → Bool
-done state.Head = false
-done state.Pixels = false
-done state.Calls = true
+-- the head of a tile whose pixels are all read
+abbrev pub done : ℕ → Place → Result Head ReaderFault
+done n place.Head = Err (Order n)
+done n (place.Pixels h next) = Err (Order n)
+done n (place.Calls h) = Ok h
 
--- what is wrong with the end of a job after n records, with so many bytes left over: it comes out of turn before the last P
-abbrev pub end_fault : ℕ → ℕ → State → Option ReaderFault
-end_fault n left s = first_fault (record { holds = (left == 0); fault = Torn n } ∷ record { holds = done s; fault = Order n } ∷ [])
+-- the end of a job after n records, with so many bytes left over: the head of its tile, or what is wrong: it comes out of turn before the last P
+abbrev pub ended : ℕ → ℕ → Place → Result Head ReaderFault
+ended n left p = cond (left == 0) (done n p) (Err (Torn n))
 
 -- the criterion of a shape with this limit
 abbrev pub by_shape : Shape → ℕ → Judgement ℕ

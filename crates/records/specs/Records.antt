@@ -56,6 +56,10 @@ tolerance_of Step t = tolerance.Step t
 tolerance_of Tone t = tolerance.Tone t
 tolerance_of Turn t = tolerance.Turn t
 
+-- how many pixels the tile of a head has
+abbrev pub pixels : Head → ℕ
+pixels h = h.width * h.height
+
 -- what the other bytes of an H say
 abbrev pub head_of : Shape → List ℕ → Head
 head_of s bs = record { width = byte bs 1; height = byte bs 2; joining = byte bs 3; shape = s; limit = byte bs 5 }
@@ -65,3 +69,15 @@ abbrev pub record_of : Kind → List ℕ → Record
 record_of (kind.Head s) bs = sound.Head (head_of s bs)
 record_of kind.Pixel bs = sound.Pixel (byte bs 3) (byte bs 4)
 record_of (kind.Call o) bs = sound.Call o (byte bs 2)
+
+-- the map byte of a P
+abbrev pub map_bytes : Record → List ℕ
+map_bytes (sound.Head h) = []
+map_bytes (sound.Pixel v g) = v ∷ []
+map_bytes (sound.Call o s) = []
+
+-- the grey byte of a P
+abbrev pub grey_bytes : Record → List ℕ
+grey_bytes (sound.Head h) = []
+grey_bytes (sound.Pixel v g) = g ∷ []
+grey_bytes (sound.Call o s) = []

@@ -1,13 +1,12 @@
 // What can end a job.
 ghost use Rattle.std.specs.Prelude.{◌≡◌};
-ghost use Rattle.records.specs.declared.fault.ReaderFault.TheVariants.{Bench};
 ghost use Rattle.records.specs.Faults.{reader_code, record_of_fault};
 
 use bench::BenchFault;
 use criteria::{Code, Layer};
 
 // A fault of the reader has the number of its record; one from below travels up whole, and the reader adds the number.
-#[derive(Clone, Copy)]
+#[derive(Clone, Copy, Debug, PartialEq, Eq)]
 pub enum ReaderFault {
     // 1 to 7 bytes remain
     Torn(usize),
@@ -21,24 +20,16 @@ pub enum ReaderFault {
     Bench(BenchFault, usize),
 }
 
-impl From<(BenchFault, usize)> for ReaderFault {
-    ghost from_gives = { λ p r. r ≡ Bench p.0 p.1 };
+impl From<ReaderFault> for Code {
+    ghost from_gives = { λ f r. r ≡ reader_code f };
 
-    fn from(fault: (BenchFault, usize)) -> ReaderFault {
-        ReaderFault::Bench(fault.0, fault.1)
-    }
-}
-
-impl ReaderFault {
-    pub fn code(self) -> Code
-        ensures { result ≡ reader_code self }
-    {
-        let (number, place) = match self {
+    fn from(fault: ReaderFault) -> Code {
+        let (number, place) = match fault {
             ReaderFault::Torn(number) => (11, number),
             ReaderFault::Letter(number) => (12, number),
             ReaderFault::Order(number) => (13, number),
             ReaderFault::Filler(number) => (14, number),
-            ReaderFault::Bench(fault, _) => return fault.code(),
+            ReaderFault::Bench(fault, _) => return Code::from(fault),
         };
         Code {
             layer: Layer::Job,
@@ -46,7 +37,9 @@ impl ReaderFault {
             place,
         }
     }
+}
 
+impl ReaderFault {
     // The record number that was added to a fault from below.
     pub fn added_record(self) -> Option<usize>
         ensures { result ≡ record_of_fault self }

@@ -1,6 +1,7 @@
 // The records of a job: how they lie in eight bytes, which may come where, and what is wrong with the others.
 #![tactic(auto)]
 
+mod criterion;
 mod fault;
 mod head;
 mod letters;
@@ -8,11 +9,15 @@ mod place;
 mod reader;
 mod records;
 mod state;
+mod stop;
 mod theorems;
+mod tile;
 
+pub use criterion::ByteCriterion;
 pub use fault::ReaderFault;
-pub use head::at;
-pub use place::{Place, State};
+pub use place::Place;
 pub use records::{Head, Record, Shape};
 pub use state::Reader;
+pub use stop::Stop;
 pub use theorems::records_hold;
+pub use tile::Tile;

@@ -1,19 +1,13 @@
 // Where the reader is.
 use crate::records::Head;
 
-// What comes next: the head, pixels, or calls.
-#[derive(Clone, Copy)]
-pub enum State {
+// What the reader takes next, and what it knows by then.
+#[derive(Clone, Copy, Debug, PartialEq, Eq)]
+pub enum Place {
+    // the head
     Head,
-    Pixels,
-    Calls,
-}
-
-// The reader's own numbers: what the head says, the tile's count of pixels, and the pixel that comes next.
-#[derive(Clone, Copy)]
-pub struct Place {
-    pub state: State,
-    pub head: Head,
-    pub count: usize,
-    pub next: usize,
+    // the pixel with this number, of the tile that the head names
+    Pixels { head: Head, next: usize },
+    // the calls on that tile
+    Calls { head: Head },
 }

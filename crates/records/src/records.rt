@@ -1,8 +1,10 @@
 // The records of a job.
+ghost use Rattle.std.specs.Prelude.{◌≡◌};
+
 use morphology::Operation;
 
 // The criterion that an H asks for.
-#[derive(Clone, Copy)]
+#[derive(Clone, Copy, Debug, PartialEq, Eq)]
 pub enum Shape {
     Step,
     Tone,
@@ -10,7 +12,7 @@ pub enum Shape {
 }
 
 // What the letters of a record say that it is.
-#[derive(Clone, Copy)]
+#[derive(Clone, Copy, Debug, PartialEq, Eq)]
 pub(crate) enum Kind {
     Head(Shape),
     Pixel,
@@ -18,7 +20,7 @@ pub(crate) enum Kind {
 }
 
 // What an H says.
-#[derive(Clone, Copy)]
+#[derive(Clone, Copy, Debug, PartialEq, Eq)]
 pub struct Head {
     pub width: u8,
     pub height: u8,
@@ -28,7 +30,7 @@ pub struct Head {
 }
 
 // A sound record: an H; a P with its map byte and its grey byte; a C with its operation and its size.
-#[derive(Clone, Copy)]
+#[derive(Clone, Copy, Debug, PartialEq, Eq)]
 pub enum Record {
     Head(Head),
     Pixel(u8, u8),

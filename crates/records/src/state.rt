@@ -1,16 +1,13 @@
 // The reader: where it is, and what holds of that.
-ghost use Rattle.std.specs.Prelude.{◌≡◌, ◌*◌, ◌≤◌, true};
-ghost use Rattle.records.specs.Bounds.{head_sound, next_within};
+ghost use Rattle.std.specs.Prelude.{◌≡◌, true};
+ghost use Rattle.records.specs.Bounds.{sound};
 
 use crate::place::Place;
 
-#[derive(Clone, Copy)]
+#[derive(Clone, Copy, Debug, PartialEq, Eq)]
 pub struct Reader {
     pub(crate) place: Place,
-    ghost area: { place.count ≡ place.head.width * place.head.height },
-    ghost small: { place.count ≤ 4096 },
-    ghost sound: { head_sound place.state place.head ≡ true },
-    ghost within: { next_within place.state place.next place.count ≡ true },
+    ghost sound: { sound place ≡ true },
 }
 
 impl Reader {

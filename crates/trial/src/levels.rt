@@ -51,7 +51,7 @@ fn print_answer(
 
 // On a tile of one pixel: four dilates of 15 lead to level 60.
 pub fn try_levels(rt: &impl Print) -> Result<(), Failure> {
-    let step = Step::new(Tolerance::Step(0))?;
+    let step = Step::try_from(Tolerance::Step(0))?;
     let values = [0];
     let mut map = Map::empty();
     map.make(1, 1, 4, &values)?;

@@ -20,7 +20,7 @@ fn print_near(rt: &impl Print, slope: &str, near: bool) -> io::Result<()> {
 
 // With limits 0.25 and 0.
 pub fn try_limits(rt: &impl Print) -> Result<(), Failure> {
-    let limits = Limits::new(Tolerance::Limits(0.25, 0.0))?;
+    let limits = Limits::try_from(Tolerance::Limits(0.25, 0.0))?;
     let centre = ReflectanceBits {
         mean: ONE_AND_A_HALF,
         slope: 0,

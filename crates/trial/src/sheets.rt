@@ -36,7 +36,7 @@ fn try_pixel(
 
 // On the map 0 50 50 0, two by two, with step 0.
 pub fn try_sheets(rt: &impl Print, joining: u8) -> Result<(), Failure> {
-    let step = Step::new(Tolerance::Step(0))?;
+    let step = Step::try_from(Tolerance::Step(0))?;
     let values = [0, 50, 50, 0];
     let mut map = Map::empty();
     map.make(2, 2, joining, &values)?;

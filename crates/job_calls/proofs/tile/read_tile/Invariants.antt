@@ -1,6 +1,7 @@
-use Rattle.std.proofs.Common.{take}
+use Rattle.std.proofs.Common.{◌≡◌, false, take}
+use Rattle.job_calls.specs.Calling.{takes_calls}
 use Rattle.job_calls.specs.Reading.{SoFar}
 use Rattle.job_calls.proofs.tile.read_tile.Given as goal
 
 abbrev pub invariant-loop-number : goal.invariant-loop-number
-invariant-loop-number l = SoFar l.map l.picture l.reader.place (take l.number l.records)
+invariant-loop-number l = SoFar l.tile.map.items l.tile.picture.items l.reader.place (take l.number l.records) × (takes_calls l.reader.place ≡ false)

@@ -9,17 +9,17 @@ returns-in_err-bench g c =
     let ending = g.V.View.ending in
     let t = c.args.self.now in
     let p = err_from_is_err_and c.from_residual-in_err-bench.result c.from_residual-in_err-bench.ensures.1 in
-    rw (p.1, p.2) (left_off ending t.records.now t.left t.reader.place.head t.grey.now c.filter_by_shape.new.picture (string_bytes c.filter_by_shape.new.text) c.in_err-bench.field-0.0 (c.in_err-bench.ensures ending))
+    rw (p.1, p.2) (left_off ending t.records.now t.left t.head t.grey.now c.filter.new.picture (string_bytes c.filter.new.text) c.in_err-bench.field-0.0 (c.in_err-bench.ensures ending))
 
 pub returns : goal.returns
 returns g c =
     let ending = g.V.View.ending in
     let t = c.args.self.now in
     let b = c.in_ok-bench.bench in
-    let picture = c.filter_by_shape.new.picture in
-    let one = string_bytes c.filter_by_shape.new.text in
+    let picture = c.filter.new.picture in
+    let one = string_bytes c.filter.new.text in
     let filtered : c.deref.result.now ≡ picture = grind (arith, common_steps) in
-    let line : string_bytes c.push.new.text ≡ one ++ ending t.reader.place.head t.grey.now picture b.levels b.count =
-    c.in_ok-push.ensures ∙ rw (c.place.ensures, filtered, c.levels-levels.ensures, c.strike.ensures, c.finish.ensures.book) refl
+    let line : string_bytes c.push.new.text ≡ one ++ ending t.head t.grey.now picture b.book.levels b.book.count =
+    c.in_ok-push.ensures ∙ rw (filtered, c.levels-levels.ensures, c.strike.ensures, c.finish.ensures.book) refl
     in
-    printed ending t.records.now t.left t.reader.place.head t.grey.now b picture one _ (c.in_ok-bench.ensures ending) line
+    printed ending t.records.now t.left t.head t.grey.now b picture one _ (c.in_ok-bench.ensures ending) line
