@@ -48,14 +48,7 @@ impl TakenTile<'_> {
     {
         let taken = self.taken;
         let mut map = Map::empty();
-        let mut bench = seat_at(
-            taken - 1,
-            self.head,
-            criterion,
-            &mut map,
-            self.map,
-            picture,
-        )?;
+        let mut bench = seat_at(taken - 1, self.head, criterion, &mut map, self.map, picture)?;
         make_calls(
             self.reader,
             taken,

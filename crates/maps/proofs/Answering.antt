@@ -1,5 +1,5 @@
 -- What an accepted call says of its checks. Assumes nothing.
-use Rattle.std.proofs.Common.{◌≡◌, ℕ, Bool, true, false, cond, List, ◌∷◌, Some, None, Ok, Option, refl, arith}
+use Rattle.std.proofs.Common.{◌≡◌, Bool, true, false, cond, List, ◌∷◌, Some, None, Ok, Option, refl}
 use Rattle.maps.specs.Checks.{Check, first_fault, answered}
 
 module _ {V F : Type 0} where

@@ -1,7 +1,7 @@
 // Calls near the highest level.
 use crate::failure::Failure;
 use bench::{Bench, BenchFault};
-use criteria::{MapFault, Step, Tolerance};
+use criteria::{Code, MapFault, Step, Tolerance};
 use lines::FaultText;
 use maps::Map;
 use morphology::Operation;
@@ -41,7 +41,7 @@ fn print_answer(
         Ok(level) => println!(rt; "{letter} {size}: {level}"),
         Err(fault) => {
             let fault = FaultText {
-                code: fault.code(),
+                code: Code::from(fault),
                 at: None,
             };
             println!(rt; "{letter} {size}: {fault}")

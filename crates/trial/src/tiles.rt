@@ -1,5 +1,6 @@
 // Which tiles pass.
 use crate::failure::Failure;
+use criteria::Code;
 use lines::FaultText;
 use maps::tile_pixels;
 use std::io;
@@ -9,7 +10,7 @@ fn try_tile(rt: &impl Print, width: usize, height: usize) -> io::Result<()> {
         Ok(pixels) => println!(rt; "tile {width} {height}: {pixels}"),
         Err(fault) => {
             let fault = FaultText {
-                code: fault.code(),
+                code: Code::from(fault),
                 at: None,
             };
             println!(rt; "tile {width} {height}: {fault}")

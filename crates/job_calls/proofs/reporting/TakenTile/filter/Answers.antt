@@ -1,6 +1,5 @@
-use Rattle.std.proofs.Common.{Ok, Err, ap, ◌∙◌}
+use Rattle.std.proofs.Common.{Ok, Err}
 use Rattle.std.proofs.lemmas.Result.{err_from_is_err_and}
-use Rattle.maps.specs.Windows.{window}
 use Rattle.job_calls.proofs.Ending.{rest_is, refused, after_calls}
 use Rattle.job_calls.proofs.reporting.TakenTile.filter.Goals as goal
 
