@@ -1,5 +1,5 @@
 -- What the loops over listed pixels keep. Assumes nothing.
-use Rattle.std.proofs.Common.{◌≡◌, ℕ, ◌+◌, ◌<◌, ◌≤◌, ◌≢◌, ◌⊎◌, List, length, set, sym, refl, subst, inl, inr, arith}
+use Rattle.std.proofs.Common.{◌≡◌, ℕ, ◌+◌, ◌<◌, ◌≤◌, ◌≢◌, ◌⊎◌, List, length, set, sym, subst, inl, inr, arith}
 use Rattle.std.proofs.lemmas.Bool.{cases_eq}
 use Rattle.scales.specs.Scales.{Grading, Lattice}
 use Rattle.morphology.specs.Bounds.{JoinOf}
@@ -64,15 +64,6 @@ module _ {V : Type 0} {scale : Grading V} {A B : ℕ → Type 0} (to : (p : ℕ)
 
 -- the join of own and of the values at the first k pixels
 module _ {V : Type 0} {scale : Grading V} (L : Lattice scale) {own : V} {f : List V} {pixels : List ℕ} where
-  pub gather_none : JoinOf scale (OwnOrOver own (Early pixels 0) f) own
-  gather_none = record {
-    above = λ u h. elim h [
-      | inl e ↦ subst (λ w. scale.below w own) (sym e) (L.order.reflexive own)
-      | inr o ↦ absurd (none_early o.member)
-    ];
-    least = λ c h. h own (inl refl);
-  }
-
   pub gather_more : {k p : ℕ} {all v : V} → At pixels k p → At f p v → JoinOf scale (OwnOrOver own (Early pixels k) f) all →
       JoinOf scale (OwnOrOver own (Early pixels (k + 1)) f) (scale.join all v)
   gather_more {k} {p} at-k at_p j = join_same to from (join_both L j (join_alone L at_p))
