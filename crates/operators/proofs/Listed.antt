@@ -1,5 +1,5 @@
 -- What the loops over listed pixels keep. Assumes nothing.
-use Rattle.std.proofs.Common.{◌≡◌, ℕ, ◌+◌, ◌<◌, ◌≤◌, ◌≢◌, ◌⊎◌, List, length, set, sym, refl, subst, inl, inr, arith}
+use Rattle.std.proofs.Common.{◌≡◌, ℕ, ◌+◌, ◌<◌, ◌≤◌, ◌≢◌, ◌⊎◌, List, length, set, sym, ◌∙◌, subst, inl, inr, arith}
 use Rattle.std.proofs.lemmas.Bool.{cases_eq}
 use Rattle.scales.specs.Scales.{Grading, Lattice}
 use Rattle.morphology.specs.Bounds.{JoinOf}
@@ -64,15 +64,6 @@ module _ {V : Type 0} {scale : Grading V} {A B : ℕ → Type 0} (to : (p : ℕ)
 
 -- the join of own and of the values at the first k pixels
 module _ {V : Type 0} {scale : Grading V} (L : Lattice scale) {own : V} {f : List V} {pixels : List ℕ} where
-  pub gather_none : JoinOf scale (OwnOrOver own (Early pixels 0) f) own
-  gather_none = record {
-    above = λ u h. elim h [
-      | inl e ↦ subst (λ w. scale.below w own) (sym e) (L.order.reflexive own)
-      | inr o ↦ absurd (none_early o.member)
-    ];
-    least = λ c h. h own (inl refl);
-  }
-
   pub gather_more : {k p : ℕ} {all v : V} → At pixels k p → At f p v → JoinOf scale (OwnOrOver own (Early pixels k) f) all →
       JoinOf scale (OwnOrOver own (Early pixels (k + 1)) f) (scale.join all v)
   gather_more {k} {p} at-k at_p j = join_same to from (join_both L j (join_alone L at_p))
@@ -97,24 +88,21 @@ module _ {V : Type 0} {scale : Grading V} {pixels : List ℕ} {v : V} {old : Lis
   pub put_none : AllPut scale (Early pixels 0) v old old
   put_none x b a = outside none_early a
 
-  pub put_more : {k p : ℕ} {new : List V} {u : V} → Once pixels → At pixels k p → At new p u → AllPut scale (Early pixels k) v old new →
-      AllPut scale (Early pixels (k + 1)) v old (set new p (scale.join u v))
-  put_more {k} {p} {new} {u} once at-k at_p all x b a = elim (cases_eq x p) [
-    | inl same ↦ subst (λ q. Put scale (Early pixels (k + 1)) v old q b) (sym same) (written (subst (λ q. At new' q b) same a))
-    | inr other ↦ kept other (all x b (at_set_other new p x (scale.join u v) other a))
+  pub put_more : {k p : ℕ} {new : List V} {u w : V} → Once pixels → At pixels k p → At new p u → w ≡ scale.join u v →
+      AllPut scale (Early pixels k) v old new → AllPut scale (Early pixels (k + 1)) v old (set new p w)
+  put_more {k} {p} {new} {u} {w} once at-k at_p joined all x b a = elim (cases_eq x p) [
+    | inl same ↦ subst (λ q. Put scale (Early pixels (k + 1)) v old q b) (sym same) (written (subst (λ q. At (set new p w) q b) same a))
+    | inr other ↦ kept other (all x b (at_set_other new p x w other a))
   ]
     where
-      new' : List V
-      new' = set new p (scale.join u v)
-
       untouched : {w : V} → Put scale (Early pixels k) v old p w → At old p w
       untouched (inside e o) = let bad = once e.place k p e.there at-k in let h = e.early in absurd (omega arith)
       untouched (outside out o) = o
 
-      written : {w : V} → At new' p w → Put scale (Early pixels (k + 1)) v old p w
+      written : {z : V} → At (set new p w) p z → Put scale (Early pixels (k + 1)) v old p z
       written a' =
-          let joined = inside (last at-k) (untouched (all p u at_p)) in
-          subst (Put scale (Early pixels (k + 1)) v old p) (sym (at_set_same new p (scale.join u v) a')) joined
+          let here = inside (last at-k) (untouched (all p u at_p)) in
+          subst (Put scale (Early pixels (k + 1)) v old p) (sym (at_set_same new p w a' ∙ joined)) here
 
       kept : {y : ℕ} {w : V} → y ≢ p → Put scale (Early pixels k) v old y w → Put scale (Early pixels (k + 1)) v old y w
       kept other (inside e o) = inside (longer e) o

@@ -1,5 +1,5 @@
 -- What the loop over the centres keeps, and the repetition of it. Assumes nothing.
-use Rattle.std.proofs.Common.{◌≡◌, ℕ, ◌+◌, Bool, true, false, List, length, sym, refl, ap, ◌∙◌, subst, inl, inr, add-one, arith}
+use Rattle.std.proofs.Common.{◌≡◌, ℕ, ◌+◌, Bool, true, false, List, length, sym, refl, ◌∙◌, subst, inl, inr, arith}
 use Rattle.scales.specs.Scales.{Grading, Lattice}
 use Rattle.morphology.specs.Algebra.{times}
 use Rattle.morphology.specs.Bounds.{JoinOf}
@@ -10,7 +10,7 @@ use Rattle.morphology.proofs.Tables.{weak_inside}
 use Rattle.morphology.proofs.Values.{at_getD}
 use Rattle.morphology.proofs.Sweep.{InWeak, Swept, SweptTo, swept_in, swept_out, sweep_starts, sweep_ends_anywhere}
 use Rattle.neighbourhoods.specs.Listings.{In, Lists}
-use Rattle.operators.specs.Steps.{towards, Within, Once, OwnOrOver, Over, Put, inside, outside, AllPut, Spread}
+use Rattle.operators.specs.Steps.{towards, Within, OwnOrOver, Over, Put, inside, outside, AllPut, Spread}
 use Rattle.operators.proofs.Listed.{over_at, put_same}
 
 -- either way the scale is a lattice
@@ -27,9 +27,6 @@ holds_centre (next w j h t) = holds_centre w
 module _ {g : Ground} {z : ℕ} {pixels : List ℕ} (listed : Lists (Weak g z) pixels) where
   pub lists_within : {n : ℕ} → n ≡ count g → Within n pixels
   lists_within same i h = let w = weak_inside (listed.sound (at_getD pixels i 0 h)) in omega arith
-
-  pub lists_once : Once pixels
-  lists_once i k p a b = listed.once a b
 
   pub spread_is : {V : Type 0} {scale : Grading V} {f old new : List V} {own v : V} → At f z own →
       JoinOf scale (OwnOrOver own (In pixels) f) v → AllPut scale (In pixels) v old new → Spread scale g z f old new
@@ -83,10 +80,3 @@ module _ {V : Type 0} {scale : Grading V} (L : Lattice scale) {g : Ground} {f : 
 pub record Repeated {V : Type 0} (F : List V → List V) (n : ℕ) (f f' : List V) (old marks : List ℕ) : Type 0 where
   pub passed : f' ≡ times n F f
   pub marks_kept : marks ≡ old
-
-pub repeated_more : {V : Type 0} {F : List V → List V} {n : ℕ} {f f' f'' : List V} {old marks marks' : List ℕ} →
-    Repeated F n f f' old marks → f'' ≡ F f' → marks' ≡ marks → Repeated F (n + 1) f f'' old marks'
-repeated_more {F = F} {n = n} {f = f} r one kept = record {
-  passed = one ∙ ap F r.passed ∙ ap (λ k. times k F f) (sym (add-one n));
-  marks_kept = kept ∙ r.marks_kept;
-}

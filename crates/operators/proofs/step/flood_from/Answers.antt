@@ -6,15 +6,11 @@ use Rattle.neighbourhoods.specs.Marks.{served}
 use Rattle.neighbourhoods.proofs.Showing.{cleared}
 use Rattle.operators.proofs.step.flood_from.Goals as goal
 
-pub returns : goal.returns
-returns g c =
+pub returns-clause-listed : goal.returns-clause-listed
+returns-clause-listed g c =
     let g' = ground (g.C.Criterion.judgement c.args.criterion.now) c.args.map.now in
     let flooded = subst (QueueAfter g' c.args.z c.args.marks.now c.args.queue.now c.flood.new.queue) c.unwrap.ensures c.flood.ensures.queue_after in
-    record {
-      count = flooded.within;
-      listed = flooded.listed (cleared _ (pixels_of c.args.map.now) c.requires.clear);
-      marks = c.flood.ensures.marks_kept;
-    }
+    flooded.listed (cleared _ (pixels_of c.args.map.now) c.requires.clear)
 
 pub unwrap-requires : goal.unwrap-requires
 unfolding served

@@ -1,11 +1,8 @@
 use Rattle.std.proofs.Common.{get_or}
 use Rattle.morphology.proofs.Values.{at_getD, at_read}
-use Rattle.operators.proofs.Listed.{gather_none, gather_more, gather_all}
+use Rattle.operators.proofs.Listed.{gather_more, gather_all}
 use Rattle.operators.proofs.Sweeping.{towards_lattice}
 use Rattle.operators.proofs.step.gather.Goals as goal
-
-pub loop-pixel-init : goal.loop-pixel-init
-loop-pixel-init g c = gather_none (towards_lattice g.O.Operator.up g.met.S.Scale.lattice)
 
 pub loop-pixel-preserved : goal.loop-pixel-preserved
 loop-pixel-preserved g c =

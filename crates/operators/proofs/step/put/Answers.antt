@@ -13,7 +13,7 @@ loop-pixel-preserved g c =
     let here = at_getD pixels i 0 c.loop-pixel-test.true in
     let within : get_or pixels i 0 < length c.loop-pixel.spare = omega (arith, c.requires.within i c.loop-pixel-test.true) in
     let value = at_read c.loop-pixel.spare (get_or pixels i 0) _ within c.index-spare-pixel.is in
-    rw c.pick.ensures (put_more c.requires.once here value c.loop-pixel.invariant)
+    put_more c.requires.once here value c.pick.ensures c.loop-pixel.invariant
 
 pub returns : goal.returns
 returns g c = put_all c.loop-pixel-test.false c.loop-pixel.invariant
