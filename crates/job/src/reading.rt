@@ -18,12 +18,7 @@ fn lay(head: Head, values: &[u8]) -> Result<(), BenchFault>
 {
     let criterion = head.criterion()?;
     let mut map = Map::empty();
-    map.make(
-        usize::from(head.width),
-        usize::from(head.height),
-        head.joining,
-        values,
-    )?;
+    head.lay(&mut map, values)?;
     maps::check_admitted(&criterion, &map)?;
     Ok(())
 }

@@ -1,5 +1,5 @@
 // The map of a job, and the bench on which its picture is seated.
-ghost use Rattle.std.specs.Prelude.{◌≡◌, length, IfOk, Some, None, Ok, MatchResult};
+ghost use Rattle.std.specs.Prelude.{◌≡◌, length, IfOk, Some, None, MatchResult};
 ghost use Rattle.maps.specs.Checks.{first_fault};
 ghost use Rattle.maps.specs.Tiles.{map_checks};
 ghost use Rattle.maps.specs.Windows.{window, window_of};
@@ -8,25 +8,10 @@ ghost use Rattle.bench.specs.Laws.{Seated};
 ghost use Rattle.job_calls.specs.Made.{grey_setting};
 ghost use Rattle.job_calls.specs.Calling.{RefusedAt};
 
-use bench::{Bench, BenchFault};
+use bench::Bench;
 use criteria::Criterion;
 use maps::Map;
 use records::{Head, ReaderFault};
-
-// Makes the map of a head on these values.
-fn lay<'a>(map: &mut Map<'a, u8>, head: Head, values: &'a [u8]) -> Result<(), BenchFault>
-    requires { first_fault (map_checks head.width head.height head.joining (length values.now)) ≡ None }
-    ensures answer { result ≡ Ok tt }
-    ensures window { window_of map.new ≡ window values.now head.width head.height head.joining }
-{
-    map.make(
-        usize::from(head.width),
-        usize::from(head.height),
-        head.joining,
-        values,
-    )?;
-    Ok(())
-}
 
 // Makes the map of a head that passed and seats the picture, at the record of the last pixel.
 pub(crate) fn seat_at<'a, C: Criterion<Value = u8>>(
@@ -44,6 +29,7 @@ pub(crate) fn seat_at<'a, C: Criterion<Value = u8>>(
     ensures admitted { MatchResult result (λ _. FirstNot (C.judgement criterion.now).admits values.now None)
         (RefusedAt number (λ i. FirstNot (C.judgement criterion.now).admits values.now (Some i))) }
 {
-    lay(map, head, values).map_err(|fault| ReaderFault::Bench(fault, number))?;
+    head.lay(map, values)
+        .map_err(|fault| ReaderFault::Bench(fault, number))?;
     bench::seat(&*map, criterion, picture).map_err(|fault| ReaderFault::Bench(fault, number))
 }

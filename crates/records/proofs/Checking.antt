@@ -1,17 +1,13 @@
 -- Checks in a stated order, here and in the layers below. Assumes nothing.
-use Rattle.std.proofs.Common.{◌≡◌, ℕ, Bool, true, false, cond, List, [], ◌∷◌, Some, None, Ok, Err, Option, sym, refl, ap, ◌∙◌, arith}
+use Rattle.std.proofs.Common.{◌≡◌, ℕ, Bool, true, false, cond, List, [], ◌∷◌, Some, None, Ok, Option, sym, refl, ap, ◌∙◌}
+use Rattle.std.proofs.lemmas.Option.{none-some}
 use Rattle.criteria.specs.declared.fault.MapFault.{MapFault}
 use Rattle.maps.specs.Checks.{Check, first_fault, answered}
 use Rattle.maps.proofs.Answering.{no_fault}
-use Rattle.bench.proofs.Passing.{the_fault}
-use Rattle.bench.specs.declared.fault.BenchFault.{BenchFault}
 use Rattle.bench.specs.declared.fault.BenchFault.TheVariants.{Map}
 use Rattle.records.specs.declared.fault.ReaderFault.{ReaderFault}
 use Rattle.records.specs.declared.fault.ReaderFault.TheVariants.{Bench}
 use Rattle.records.specs.Reading.{through_bench, from_below}
-
-pub none≢some : {A : Type 0} {a : A} → None ≡ Some a → ⊥
-none≢some e = let z : ◌≡◌ {A = ℕ} 0 1 = cc in omega arith
 
 pub some_same : {A : Type 0} {a b : A} → Some a ≡ Some b → a ≡ b
 some_same e = cc
@@ -19,7 +15,7 @@ some_same e = cc
 -- the first of the checks passes, and then the others do
 pub first_passes : {F : Type 0} (b : Bool) (o : Option F) (f : F) → cond b o (Some f) ≡ None → (b ≡ true) × (o ≡ None)
 first_passes true o f e = (refl, e)
-first_passes false o f e = absurd (none≢some (sym e))
+first_passes false o f e = absurd (none-some _ (sym e))
 
 -- a fault from below, with the record number
 abbrev travelled : ℕ → Option MapFault → Option ReaderFault
@@ -43,18 +39,9 @@ passes_below n cs e = untravelled (first_fault cs) (sym (from_below_is n cs) ∙
   where
     untravelled : (o : Option MapFault) → travelled n o ≡ None → o ≡ None
     untravelled None e = refl
-    untravelled (Some f) e = absurd (none≢some (sym e))
-
--- what is refused below is refused here by the same fault, with the record number
-pub carried : {V : Type 0} (n : ℕ) (cs : List (Check MapFault)) (v : V) (f : BenchFault) →
-    Err f ≡ answered (through_bench (first_fault cs)) v → first_fault (from_below n cs) ≡ Some (Bench f n)
-carried n cs v f e = from_below_is n cs ∙ by (first_fault cs) (the_fault (through_bench (first_fault cs)) v e)
-  where
-    by : (o : Option MapFault) → through_bench o ≡ Some f → travelled n o ≡ Some (Bench f n)
-    by None e = absurd (none≢some e)
-    by (Some g) e = ap (λ q. Some (Bench q n)) (some_same e)
+    untravelled (Some f) e = absurd (none-some _ (sym e))
 
 -- what is answered below found nothing
 pub reported : {V : Type 0} (o : Option MapFault) (v : V) {w : V} → Ok w ≡ answered (through_bench o) v → o ≡ None
 reported None v e = refl
-reported (Some f) v e = absurd (none≢some (sym (no_fault (through_bench (Some f)) v e)))
+reported (Some f) v e = absurd (none-some _ (sym (no_fault (through_bench (Some f)) v e)))

@@ -1,6 +1,7 @@
 -- Reading and writing a record. Assumes nothing.
 use Rattle.std.proofs.Common.{◌≡◌, ℕ, ◌+◌, ◌*◌, ◌/◌, ◌%◌, ◌<◌, Bool, true, false, cond, eqb, List, [], ◌∷◌, length, Some, None, Ok, Option, sym, refl, ap, ◌∙◌, subst, true≢false, arith}
 use Rattle.std.proofs.lemmas.Bool.{eq-eqb, eqb-true, and_parts}
+use Rattle.std.proofs.lemmas.Option.{none-some}
 use Rattle.maps.specs.Checks.{first_fault}
 use Rattle.maps.proofs.Answering.{no_fault}
 use Rattle.bench.proofs.Passing.{the_value}
@@ -16,7 +17,7 @@ use Rattle.records.specs.declared.place.Place.{Place}
 use Rattle.records.specs.declared.place.Place.TheVariants as place
 use Rattle.records.specs.Records.{byte, shape_of, operation_of, head_kind, call_kind, kind_of, all_zero, filler_of, pixel_number, head_of, record_of}
 use Rattle.records.specs.Reading.{in_turn, head_checks, own_checks, record_checks, content_checks, checked, lettered, taken}
-use Rattle.records.proofs.Checking.{none≢some, some_same, first_passes, passes_here, passes_below}
+use Rattle.records.proofs.Checking.{some_same, first_passes, passes_here, passes_below}
 use Rattle.records.specs.Encoding.{shape_letter, operation_letter, encoded, next_pixel, Comes, head, pixel, call}
 
 -- a Bool by its two cases, with the equation
@@ -51,12 +52,12 @@ listed letter b a x o later e =
 
 shape_written : (b : ℕ) (s : Shape) → shape_of b ≡ Some s → b ≡ shape_letter s
 shape_written b s e =
-    listed shape_letter b Step s _ (listed shape_letter b Tone s _ (listed shape_letter b Turn s _ (λ q. absurd (none≢some q)))) e
+    listed shape_letter b Step s _ (listed shape_letter b Tone s _ (listed shape_letter b Turn s _ (λ q. absurd (none-some _ q)))) e
 
 operation_written : (b : ℕ) (o : Operation) → operation_of b ≡ Some o → b ≡ operation_letter o
 operation_written b o e =
     listed operation_letter b Dilate o _
-    (listed operation_letter b Erode o _ (listed operation_letter b Open o _ (listed operation_letter b Close o _ (λ q. absurd (none≢some q))))) e
+    (listed operation_letter b Erode o _ (listed operation_letter b Open o _ (listed operation_letter b Close o _ (λ q. absurd (none-some _ q))))) e
 
 -- The letters of a record of this kind.
 data Lettered (bs : List ℕ) : Kind → Type 0 where
@@ -65,11 +66,11 @@ data Lettered (bs : List ℕ) : Kind → Type 0 where
   as_call : {o : Operation} → byte bs 0 ≡ 67 → byte bs 1 ≡ operation_letter o → Lettered bs (kind.Call o)
 
 head_lettered : (bs : List ℕ) (o : Option Shape) (k : Kind) → byte bs 0 ≡ 72 → shape_of (byte bs 4) ≡ o → head_kind o ≡ Some k → Lettered bs k
-head_lettered bs None k h q e = absurd (none≢some e)
+head_lettered bs None k h q e = absurd (none-some _ e)
 head_lettered bs (Some s) k h q e = subst (Lettered bs) (some_same e) (as_head h (shape_written (byte bs 4) s q))
 
 call_lettered : (bs : List ℕ) (o : Option Operation) (k : Kind) → byte bs 0 ≡ 67 → operation_of (byte bs 1) ≡ o → call_kind o ≡ Some k → Lettered bs k
-call_lettered bs None k h q e = absurd (none≢some e)
+call_lettered bs None k h q e = absurd (none-some _ e)
 call_lettered bs (Some o) k h q e = subst (Lettered bs) (some_same e) (as_call h (operation_written (byte bs 1) o q))
 
 lettered_by : (bs : List ℕ) (k : Kind) → kind_of bs ≡ Some k → Lettered bs k
@@ -78,7 +79,7 @@ lettered_by bs k e =
     (λ t. let e = rw t at e in
     split (eqb (byte bs 0) 80) (λ u. let q = rw u at e in subst (Lettered bs) (some_same q) (as_pixel (eqb-true _ _ u)))
     (λ u. let e = rw u at e in
-    split (eqb (byte bs 0) 67) (λ v. call_lettered bs _ k (eqb-true _ _ v) refl (rw v at e)) (λ v. let q = rw v at e in absurd (none≢some q))))
+    split (eqb (byte bs 0) 67) (λ v. call_lettered bs _ k (eqb-true _ _ v) refl (rw v at e)) (λ v. let q = rw v at e in absurd (none-some _ q))))
 
 -- What is known of a record that was taken: its letters, its turn, its filler, and its own checks.
 record Passed (n : ℕ) (p : Place) (bs : List ℕ) (k : Kind) : Type 0 where

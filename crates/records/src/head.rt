@@ -1,10 +1,14 @@
-// The tile that an H names, and the check of an H by the code that makes maps and criteria.
-ghost use Rattle.std.specs.Prelude.{◌≡◌};
+// The tile that an H names, the check of an H by the code that makes maps and criteria, and its map.
+ghost use Rattle.std.specs.Prelude.{◌≡◌, length, None, Ok};
+ghost use Rattle.maps.specs.Checks.{first_fault};
+ghost use Rattle.maps.specs.Tiles.{map_checks};
+ghost use Rattle.maps.specs.Windows.{window, window_of};
 ghost use Rattle.records.specs.Records.{pixels};
 ghost use Rattle.records.specs.Reading.{head_answer};
 
 use crate::records::Head;
 use bench::BenchFault;
+use maps::Map;
 
 impl Head {
     // How many pixels the tile has.
@@ -24,6 +28,21 @@ impl Head {
             self.joining,
         )?;
         self.shape.tolerance(self.limit).check()?;
+        Ok(())
+    }
+
+    // Makes the map of a head that passed on these values.
+    pub fn lay<'a>(self, map: &mut Map<'a, u8>, values: &'a [u8]) -> Result<(), BenchFault>
+        requires { first_fault (map_checks self.width self.height self.joining (length values.now)) ≡ None }
+        ensures answer { result ≡ Ok tt }
+        ensures window { window_of map.new ≡ window values.now self.width self.height self.joining }
+    {
+        map.make(
+            usize::from(self.width),
+            usize::from(self.height),
+            self.joining,
+            values,
+        )?;
         Ok(())
     }
 }

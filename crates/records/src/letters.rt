@@ -10,10 +10,10 @@ impl Shape {
     pub(crate) fn from_letter(letter: u8) -> Option<Shape>
         ensures { result ≡ shape_of letter }
     {
-        match char::from(letter) {
-            'S' => Some(Shape::Step),
-            'T' => Some(Shape::Tone),
-            'R' => Some(Shape::Turn),
+        match letter {
+            b'S' => Some(Shape::Step),
+            b'T' => Some(Shape::Tone),
+            b'R' => Some(Shape::Turn),
             _ => None,
         }
     }
@@ -34,11 +34,11 @@ impl Shape {
 fn operation(letter: u8) -> Option<Operation>
     ensures { result ≡ operation_of letter }
 {
-    match char::from(letter) {
-        'D' => Some(Operation::Dilate),
-        'E' => Some(Operation::Erode),
-        'O' => Some(Operation::Open),
-        'C' => Some(Operation::Close),
+    match letter {
+        b'D' => Some(Operation::Dilate),
+        b'E' => Some(Operation::Erode),
+        b'O' => Some(Operation::Open),
+        b'C' => Some(Operation::Close),
         _ => None,
     }
 }
@@ -47,10 +47,10 @@ impl Kind {
     pub(crate) fn from_bytes(bytes: &[u8; 8]) -> Option<Kind>
         ensures { result ≡ kind_of bytes.now }
     {
-        match char::from(bytes[0]) {
-            'H' => Some(Kind::Head(Shape::from_letter(bytes[4])?)),
-            'P' => Some(Kind::Pixel),
-            'C' => Some(Kind::Call(operation(bytes[1])?)),
+        match bytes[0] {
+            b'H' => Some(Kind::Head(Shape::from_letter(bytes[4])?)),
+            b'P' => Some(Kind::Pixel),
+            b'C' => Some(Kind::Call(operation(bytes[1])?)),
             _ => None,
         }
     }

@@ -83,9 +83,7 @@ impl Reader {
         ensures place { self.new.place ≡ place_after result self.old.place }
         ensures byte { slice_index bytes.now 1 < 256 }
     {
-        let Some(kind) = Kind::from_bytes(bytes) else {
-            return Err(ReaderFault::Letter(number));
-        };
+        let kind = Kind::from_bytes(bytes).ok_or(ReaderFault::Letter(number))?;
         match (self.place, kind) {
             (Place::Head, Kind::Head(shape)) => self.head(number, shape, bytes),
             (Place::Pixels { head, next }, Kind::Pixel) => self.pixel(number, head, next, bytes),
