@@ -51,7 +51,8 @@ fn clear_spare<S: Scale>(spare: &mut [S])
     fill(spare, S::lowest());
 }
 
-// Does the filter call of this operation or refuses it, and leaves the scratch clear however it ends.
+// Does the filter call of this operation or refuses it, and leaves the scratch clear however it ends. It is lent the three parts of the
+// scratch one by one, since a struct of lent slices that came by value cannot be handed on whole.
 pub fn filter<C: Criterion, S: Scale>(
     operation: Operation,
     size: u8,
