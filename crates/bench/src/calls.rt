@@ -43,7 +43,8 @@ fn attempt<C: Criterion, S: Scale>(
     Ok(level)
 }
 
-// Does the filter call of this operation or refuses it, and leaves the scratch clear however it ends.
+// Does the filter call of this operation or refuses it, and leaves the scratch clear however it ends. It is lent the three parts of the
+// scratch one by one, since a struct of lent slices that came by value cannot be handed on whole.
 pub fn filter<C: Criterion, S: Scale>(
     operation: Operation,
     size: u8,
