@@ -4,14 +4,10 @@ use Rattle.records.specs.declared.records.Head.{Head}
 use Rattle.records.specs.declared.stop.Stop.{Stop}
 use Rattle.records.specs.declared.stop.Stop.TheVariants.{Fault, Memory}
 use Rattle.job.specs.declared.reading.JobReader.{JobReader}
-use Rattle.job.specs.Reading as reading
-use Rattle.job.specs.Reading.{Progress, record_fault, reached, reading_from}
+use Rattle.job.specs.Reading.{Progress, record_fault, reached, reading_from, fresh}
 
 abbrev pub progress : JobReader → Progress
 progress j = record { place = j.reader.place; map = j.tile.map.items; picture = j.tile.picture.items; calls = j.calls }
-
-abbrev pub fresh : Progress
-fresh = reading.fresh
 
 -- record n led from s to s', or a fault was found with it, or memory is wanting
 abbrev pub Advances : ℕ → List ℕ → Progress → Result (Unit {0}) Stop → Progress → Type 0

@@ -3,7 +3,7 @@ ghost use Rattle.std.specs.Prelude.{◌≡◌, ◌+◌, ◌^◌, ◌<◌, length
 ghost use Rattle.maps.specs.Checks.{first_fault};
 ghost use Rattle.records.specs.Records.{pixels};
 ghost use Rattle.records.specs.Reading.{head_checks, judged};
-ghost use Rattle.job.specs.Reading.{lay_answer};
+ghost use Rattle.job.specs.Reading.{lay_answer, Filled, fresh};
 
 use bench::BenchFault;
 use maps::Map;
@@ -32,8 +32,7 @@ pub(crate) struct JobReader {
 }
 
 impl JobReader {
-    ghost use Rattle.job.specs.Reading.{Filled};
-    ghost use Rattle.job.specs.Progress.{progress, fresh, Advances, Reads};
+    ghost use Rattle.job.specs.Progress.{progress, Advances, Reads};
 
     pub(crate) fn new(heap: Global) -> JobReader
         ensures { progress result ≡ fresh }

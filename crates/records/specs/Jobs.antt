@@ -47,12 +47,6 @@ records_of j = tile_records j.head j.map j.grey ++ call_records j.calls
 abbrev pub job_bytes : Job → List ℕ
 job_bytes j = concat (records_of j)
 
--- The head passes its checks, and there is a map byte and a grey byte for each pixel.
-pub record Tile (h : Head) (map grey : List ℕ) : Type 0 where
-  pub passes : first_fault (head_checks h) ≡ None
-  pub map_count : length map ≡ pixels h
-  pub grey_count : length grey ≡ pixels h
-
 -- the records of a job are its runs of eight bytes
 abbrev pub records_in : List ℕ → List (List ℕ)
 records_in bs = first_chunks 8 (length bs / 8) bs
@@ -60,6 +54,12 @@ records_in bs = first_chunks 8 (length bs / 8) bs
 -- how many bytes are left over after them
 abbrev pub left_over : List ℕ → ℕ
 left_over bs = length bs % 8
+
+-- The head passes its checks, and there is a map byte and a grey byte for each pixel.
+pub record Tile (h : Head) (map grey : List ℕ) : Type 0 where
+  pub passes : first_fault (head_checks h) ≡ None
+  pub map_count : length map ≡ pixels h
+  pub grey_count : length grey ≡ pixels h
 
 -- A job can be done: its tile is whole, and its criterion admits every map byte.
 pub record Sound (j : Job) : Type 0 where
