@@ -105,7 +105,7 @@ mod tests {
     // The worked job: dilate 1, erode 2, open 0 (refused), close 1; and its note.
     #[test]
     fn grey_bytes(rt: HostRuntime) -> Result<(), Fail> {
-        let step = Step::new(Tolerance::Step(10))?;
+        let step = Step::try_from(Tolerance::Step(10))?;
         let mut map = Map::empty();
         map.make(5, 1, 4, &WORKED)?;
         let taken = [9u8, 2, 2, 2, 4];
@@ -132,7 +132,7 @@ mod tests {
     // A pit of relief is closed, and the residue counts its depth.
     #[test]
     fn relief(rt: HostRuntime) -> Result<(), Fail> {
-        let step = Step::new(Tolerance::Step(10))?;
+        let step = Step::try_from(Tolerance::Step(10))?;
         let mut map = Map::empty();
         map.make(5, 1, 4, &WORKED)?;
         let taken = [5i16, -300, 5, 5, -7];
@@ -155,7 +155,7 @@ mod tests {
     // A dilation joins the phase sets of each neighbourhood.
     #[test]
     fn phase_sets(rt: HostRuntime) -> Result<(), Fail> {
-        let step = Step::new(Tolerance::Step(10))?;
+        let step = Step::try_from(Tolerance::Step(10))?;
         let mut map = Map::empty();
         map.make(5, 1, 4, &WORKED)?;
         let taken = [1u32, 2, 4, 8, 16];
@@ -178,7 +178,7 @@ mod tests {
     // At level 60 dilate 4 passes; dilate 5 and close 5 are refused at place 1; open 16 passes.
     #[test]
     fn levels_at_60(rt: HostRuntime) -> Result<(), Fail> {
-        let step = Step::new(Tolerance::Step(0))?;
+        let step = Step::try_from(Tolerance::Step(0))?;
         let mut map = Map::empty();
         map.make(1, 1, 8, &[0])?;
         let mut picture = [1u8];
@@ -202,7 +202,7 @@ mod tests {
     // The book has room for 60,000 calls; a full book still answers Size and Level first.
     #[test]
     fn a_full_book(rt: HostRuntime) -> Result<(), Fail> {
-        let step = Step::new(Tolerance::Step(0))?;
+        let step = Step::try_from(Tolerance::Step(0))?;
         let mut map = Map::empty();
         map.make(1, 1, 4, &[0])?;
         let mut picture = [1u8];

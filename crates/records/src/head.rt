@@ -1,6 +1,6 @@
 // The tile that an H names, the check of an H by the code that makes maps and criteria, and its map.
-ghost use Rattle.std.specs.Prelude.{◌≡◌, length, None, Ok};
-ghost use Rattle.maps.specs.Checks.{first_fault};
+ghost use Rattle.std.specs.Prelude.{◌≡◌, length};
+ghost use Rattle.maps.specs.Checks.{first_fault, answered, left_by};
 ghost use Rattle.maps.specs.Tiles.{map_checks};
 ghost use Rattle.maps.specs.Windows.{window, window_of};
 ghost use Rattle.records.specs.Records.{pixels};
@@ -8,6 +8,7 @@ ghost use Rattle.records.specs.Reading.{head_answer};
 
 use crate::records::Head;
 use bench::BenchFault;
+use criteria::MapFault;
 use maps::Map;
 
 impl Head {
@@ -31,18 +32,18 @@ impl Head {
         Ok(())
     }
 
-    // Makes the map of a head that passed on these values.
-    pub fn lay<'a>(self, map: &mut Map<'a, u8>, values: &'a [u8]) -> Result<(), BenchFault>
-        requires { first_fault (map_checks self.width self.height self.joining (length values.now)) ≡ None }
-        ensures answer { result ≡ Ok tt }
-        ensures window { window_of map.new ≡ window values.now self.width self.height self.joining }
+    // Makes the map the window of this tile on the values, or leaves it as it was.
+    pub fn lay<'a>(self, map: &mut Map<'a, u8>, values: &'a [u8]) -> Result<(), MapFault>
+        ensures answer { result ≡
+            answered (first_fault (map_checks self.width self.height self.joining (length values.now))) tt }
+        ensures window { window_of map.new ≡
+            left_by result (window values.now self.width self.height self.joining) (window_of map.old) }
     {
         map.make(
             usize::from(self.width),
             usize::from(self.height),
             self.joining,
             values,
-        )?;
-        Ok(())
+        )
     }
 }

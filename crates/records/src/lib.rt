@@ -21,3 +21,18 @@ pub use state::Reader;
 pub use stop::Stop;
 pub use theorems::records_hold;
 pub use tile::Tile;
+
+#[cfg(test)]
+mod tests {
+    use super::*;
+    use std::test::Fail;
+
+    // There is memory for the two bytes of a pixel.
+    #[test]
+    fn a_pixel_is_added(rt: HostRuntime) -> Result<(), Fail> {
+        let mut tile = Tile::new(rt.alloc());
+        tile.add(Record::Pixel(7, 9))?;
+        assert!(rt; tile.map[..] == [7] && tile.picture[..] == [9]);
+        Ok(())
+    }
+}

@@ -1,4 +1,5 @@
-use Rattle.std.proofs.Common.{◌∙◌, rules}
+use Rattle.std.proofs.Common.{◌≡◌, ◌∙◌, rules}
+use Rattle.maps.specs.Windows.{window, window_of}
 use Rattle.job_calls.proofs.Seats.{map_passes, admission}
 use Rattle.job_calls.proofs.seating.seat_at.Goals as goal
 
@@ -6,5 +7,6 @@ pub returns-clause-admitted : goal.returns-clause-admitted
 returns-clause-admitted g c =
     let h = c.args.head in
     let passes = map_passes h.width h.height h.joining _ c.requires.passed in
-    admission (g.C.Criterion.judgement c.args.criterion.now) c.lay.new.map c.args.values.now h.width h.height h.joining c.lay.ensures.window passes.0 _ (c.requires.count ∙ passes.1)
+    let shows : window_of c.lay.new.map ≡ window c.args.values.now h.width h.height h.joining = search rules in
+    admission (g.C.Criterion.judgement c.args.criterion.now) c.lay.new.map c.args.values.now h.width h.height h.joining shows passes.0 _ (c.requires.count ∙ passes.1)
     c.seat.result c.map_err-2.result c.args.number c.seat.ensures.fault (search rules)
