@@ -3,34 +3,16 @@ use bench::BenchFault;
 use criteria::MapFault;
 use std::alloc::AllocError;
 use std::io;
+use thiserror::Error;
 
-#[derive(Debug, Drop)]
+#[derive(Debug, Drop, Error)]
 pub enum Failure {
-    Output(io::Error),
-    Memory(AllocError),
-    Fault(BenchFault),
-}
-
-impl From<io::Error> for Failure {
-    fn from(error: io::Error) -> Failure {
-        Failure::Output(error)
-    }
-}
-
-impl From<AllocError> for Failure {
-    fn from(error: AllocError) -> Failure {
-        Failure::Memory(error)
-    }
-}
-
-impl From<MapFault> for Failure {
-    fn from(fault: MapFault) -> Failure {
-        Failure::Fault(BenchFault::Map(fault))
-    }
-}
-
-impl From<BenchFault> for Failure {
-    fn from(fault: BenchFault) -> Failure {
-        Failure::Fault(fault)
-    }
+    #[error("output: {0}")]
+    Output(#[from] io::Error),
+    #[error("memory: {0}")]
+    Memory(#[from] AllocError),
+    #[error("a fault of the map layer: {0:?}")]
+    Map(#[from] MapFault),
+    #[error("a fault of the bench layer: {0:?}")]
+    Bench(#[from] BenchFault),
 }
