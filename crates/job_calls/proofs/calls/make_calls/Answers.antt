@@ -28,8 +28,3 @@ returns-in_err-end g c =
     let l = c.loop-index in
     let p = err_from_is_err_and c.from_residual-in_err-end.result c.from_residual-in_err-end.ensures.1 in
     rw (p.1, p.2) (torn (grey_setting (g.C.Criterion.judgement c.args.criterion.now) c.args.map.now) c.args.first l.index c.args.left c.args.reader.place c.args.records.now (omega arith) l.invariant c.in_err-end.field-0.0 c.in_err-end.ensures)
-
-pub returns : goal.returns
-returns g c =
-    let l = c.loop-index in
-    done_all (grey_setting (g.C.Criterion.judgement c.args.criterion.now) c.args.map.now) c.args.first l.index c.args.left c.args.reader.place c.args.records.now (omega arith) l.invariant c.in_ok-end.ensures
