@@ -1,4 +1,3 @@
 pub mod Reaching
 pub mod Passing
-pub mod Summing
 pub mod Running

@@ -1,4 +1,4 @@
-// The criterion on reflectances.
+// Reflectances, as measured and as they lie in a map, and the limits within which they are near.
 ghost use Rattle.std.specs.Prelude.{◌≡◌, true};
 ghost use Rattle.criteria.specs.Limits.{is_limit};
 

@@ -20,15 +20,6 @@ module _ (i : ℕ) (records : List (List ℕ)) (left : ℕ) (s : Progress) where
       read_on i (drop i records) left s ≡ read_on (i + 1) (drop (i + 1) records) left (reached i s (get_or records i []))
   read_more h e = rw (drop-cons records i [] h, e, add-one) refl
 
-  -- a bad one ends the reading
-  pub read_bad : (f : ReaderFault) → i < length records → record_fault i s (get_or records i []) ≡ Some f →
-      read_on i (drop i records) left s ≡ record { end = Err f; left = reached i s (get_or records i []) }
-  read_bad f h e = rw (drop-cons records i [] h, e) refl
-
-  -- and so does the end
-  pub read_done : i ≡ length records → read_on i (drop i records) left s ≡ record { end = ended (length records) left s.place; left = s }
-  read_done e = rw (e, drop-length records) refl
-
 -- a record is one call at most
 pub calls_grow : (t : Result Record ReaderFault) (s : Progress) → (progress_after t s).calls ≤ s.calls + 1
 calls_grow (Ok (sound.Head h)) s = omega arith

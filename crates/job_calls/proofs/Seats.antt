@@ -18,7 +18,7 @@ use Rattle.bench.specs.Checks.{seat_checks, from_map, picture_fits, some_pixel}
 use Rattle.bench.proofs.Passing.{left_out}
 use Rattle.records.specs.declared.fault.ReaderFault.{ReaderFault}
 use Rattle.records.specs.declared.fault.ReaderFault.TheVariants as reader
-use Rattle.records.proofs.Checking.{first_passes}
+use Rattle.maps.proofs.Answering.{first_passes}
 use Rattle.job_calls.specs.Calling.{RefusedAt}
 
 -- the fault of a first value that is not admitted

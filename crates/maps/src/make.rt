@@ -1,4 +1,4 @@
-// The making of maps.
+// The making of maps, and what is known of a map that is made.
 ghost use Rattle.std.specs.Prelude.{◌≡◌, length};
 ghost use Rattle.maps.specs.Checks.{first_fault, answered, left_by};
 ghost use Rattle.maps.specs.Tiles.{map_checks};

@@ -60,10 +60,6 @@ module _ {g : Ground} {z : ℕ} {marks queue queue' : List ℕ} {count : ℕ} (f
           | inr ne ↦ let k = h.early in record { centre = h.centre; early = omega arith; holds_x = h.holds_x; holds_y = h.holds_y }
         ])
 
--- before the first flood
-pub none_held : (g : Ground) (x : ℕ) → Shows (pixels g) (Held g x 0) (zeros (pixels g))
-none_held g x = shows_none (pixels g) (Held g x 0) (λ y h. let k = h.early in omega arith)
-
 -- after the last
 pub all_held : (g : Ground) (x k : ℕ) {sheet : List ℕ} → pixels g ≤ k → Shows (pixels g) (Held g x k) sheet → sheet ≡ symmetric_sheet g x
 all_held g x k past s =

@@ -6,6 +6,7 @@ use Rattle.morphology.specs.Neighbourhoods.{Ground}
 use Rattle.morphology.specs.Pictures.{dilation, erosion}
 use Rattle.morphology.specs.Calls.{act}
 use Rattle.maps.specs.Checks.{Check}
+use Rattle.criteria.specs.declared.fault.Part.TheVariants as part
 use Rattle.operators.specs.declared.fit.Unfit.{Unfit}
 use Rattle.operators.specs.declared.fit.Unfit.TheVariants as unfit
 
@@ -17,9 +18,9 @@ operated scale g o p f = act (dilation scale g) (erosion scale g) o p f
 abbrev pub fit_checks : ℕ → ℕ → ℕ → ℕ → ℕ → List (Check Unfit)
 fit_checks n picture marks queue spare =
     record { holds = (picture == n); fault = unfit.Picture }
-    ∷ record { holds = nat_le n marks; fault = unfit.Marks }
-    ∷ record { holds = nat_le n queue; fault = unfit.Queue }
-    ∷ record { holds = nat_le n spare; fault = unfit.Spare }
+    ∷ record { holds = nat_le n marks; fault = unfit.Scratch part.Marks }
+    ∷ record { holds = nat_le n queue; fault = unfit.Scratch part.Queue }
+    ∷ record { holds = nat_le n spare; fault = unfit.Scratch part.Spare }
     ∷ []
 
 -- a refusal leaves it as it was; otherwise it may hold anything

@@ -4,6 +4,7 @@ ghost use Rattle.maps.specs.Checks.{first_fault, answered};
 ghost use Rattle.maps.specs.Windows.{pixels_of};
 ghost use Rattle.operators.specs.Operations.{fit_checks};
 
+use criteria::Part;
 use maps::Map;
 
 // What does not fit the map.
@@ -11,10 +12,8 @@ use maps::Map;
 pub enum Unfit {
     // its count is not the map's
     Picture,
-    // these have fewer entries than the map has pixels
-    Marks,
-    Queue,
-    Spare,
+    // this part has fewer entries than the map has pixels
+    Scratch(Part),
 }
 
 // Refuses a picture whose count is not the map's, and marks, a queue or a spare picture without an entry for each pixel.
@@ -36,13 +35,13 @@ pub(crate) fn check_fit<V>(
         return Err(Unfit::Picture);
     }
     if marks < pixels {
-        return Err(Unfit::Marks);
+        return Err(Unfit::Scratch(Part::Marks));
     }
     if queue < pixels {
-        return Err(Unfit::Queue);
+        return Err(Unfit::Scratch(Part::Queue));
     }
     if spare < pixels {
-        return Err(Unfit::Spare);
+        return Err(Unfit::Scratch(Part::Spare));
     }
     Ok(())
 }

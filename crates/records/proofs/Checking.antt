@@ -12,11 +12,6 @@ use Rattle.records.specs.Reading.{through_bench, from_below}
 pub some_same : {A : Type 0} {a b : A} → Some a ≡ Some b → a ≡ b
 some_same e = cc
 
--- the first of the checks passes, and then the others do
-pub first_passes : {F : Type 0} (b : Bool) (o : Option F) (f : F) → cond b o (Some f) ≡ None → (b ≡ true) × (o ≡ None)
-first_passes true o f e = (refl, e)
-first_passes false o f e = absurd (none-some _ (sym e))
-
 -- a fault from below, with the record number
 abbrev travelled : ℕ → Option MapFault → Option ReaderFault
 travelled n None = None

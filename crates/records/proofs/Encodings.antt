@@ -17,7 +17,8 @@ use Rattle.records.specs.declared.place.Place.{Place}
 use Rattle.records.specs.declared.place.Place.TheVariants as place
 use Rattle.records.specs.Records.{byte, shape_of, operation_of, head_kind, call_kind, kind_of, all_zero, filler_of, pixel_number, head_of, record_of}
 use Rattle.records.specs.Reading.{in_turn, head_checks, own_checks, record_checks, content_checks, checked, lettered, taken}
-use Rattle.records.proofs.Checking.{some_same, first_passes, passes_here, passes_below}
+use Rattle.maps.proofs.Answering.{first_passes}
+use Rattle.records.proofs.Checking.{some_same, passes_here, passes_below}
 use Rattle.records.specs.Encoding.{shape_letter, operation_letter, encoded, next_pixel, Comes, head, pixel, call}
 
 -- a Bool by its two cases, with the equation

@@ -9,7 +9,8 @@ use Rattle.records.specs.declared.place.Place.TheVariants.{Pixels}
 use Rattle.records.specs.Reading.{head_checks, head_answer}
 use Rattle.records.specs.Records.{pixels}
 use Rattle.records.specs.Bounds.{sound}
-use Rattle.records.proofs.Checking.{first_passes, reported}
+use Rattle.maps.proofs.Answering.{first_passes}
+use Rattle.records.proofs.Checking.{reported}
 
 -- the tile of a head that passes
 pub passing_tile : (h : Head) → first_fault (head_checks h) ≡ None → TileOf h.width h.height

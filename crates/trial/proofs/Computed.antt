@@ -1,12 +1,9 @@
 -- The worked examples, by computation. Assumes nothing.
-use Rattle.std.proofs.Common.{◌≤◌, refl, arith}
-use lib.Count.{ones, ones_in}
-use Rattle.scales.specs.Phases.{mark}
-use Rattle.morphology.specs.Tile.{row, column}
-use Rattle.morphology.specs.Tables.{ways, weak_table, symmetric_table, weak, symmetric}
-use Rattle.morphology.specs.Pictures.{operator}
-use Rattle.maps.specs.Grounds.{near_at}
-use Rattle.trial.specs.Worked.{NearExamples, ReachExamples, FilterExamples, PhaseExamples, ReliefExamples, WorkedExamples}
+use Rattle.std.proofs.Common.{refl}
+use Rattle.scales.proofs.Examples.{phase_examples, relief_examples}
+use Rattle.criteria.specs.Examples.{NearExamples}
+use Rattle.neighbourhoods.proofs.Worked.{reach_examples, filter_examples}
+use Rattle.trial.specs.Worked.{WorkedExamples}
 
 near_examples : NearExamples
 near_examples = record {
@@ -19,27 +16,6 @@ near_examples = record {
   turn_5 = refl;
   turn_5_not = refl;
 }
-
-reach_examples : ReachExamples
-unfolding row column ways weak_table symmetric_table weak symmetric near_at
-reach_examples = record { weak_of_0 = refl; weak_of_1 = refl; symmetric_of_0 = refl; symmetric_of_1 = refl; symmetric_of_3 = refl }
-
-filter_examples : FilterExamples
-unfolding row column ways weak_table symmetric_table weak symmetric near_at operator
-filter_examples = record { dilate_1 = refl; erode_1 = refl; close_1 = refl; close_2 = refl }
-
-phase_examples : PhaseExamples
-unfolding ones ones_in
-phase_examples = record {
-  join = refl;
-  meet = refl;
-  apart = λ w. let low : mark 3 0 ≤ mark 6 0 = w.marks 0 in omega arith;
-  apart_too = λ w. let high : mark 6 2 ≤ mark 3 2 = w.marks 2 in omega arith;
-  gap = refl;
-}
-
-relief_examples : ReliefExamples
-relief_examples = record { above = refl; below = refl }
 
 pub worked_examples : WorkedExamples
 worked_examples = record {
