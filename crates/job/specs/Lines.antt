@@ -1,12 +1,6 @@
 -- The lines that a job prints. Assumes nothing.
 use Rattle.std.specs.Prelude.{ℕ, cond, List, [], ◌++◌, codes, decimal, ◌==◌}
-use Rattle.lines.specs.Lines.{newline, fault_line}
-use Rattle.records.specs.declared.fault.ReaderFault.{ReaderFault}
-use Rattle.records.specs.Faults.{reader_code, record_of_fault}
-
--- the line of a fault
-abbrev pub line_of_fault : ReaderFault → List ℕ
-line_of_fault f = fault_line (reader_code f) (record_of_fault f)
+use Rattle.lines.specs.Lines.{newline}
 
 -- the note of a bench that accepted no call
 abbrev pub empty_note : List ℕ

@@ -4,7 +4,8 @@ use Rattle.records.specs.declared.fault.ReaderFault.{ReaderFault}
 use Rattle.records.specs.declared.records.Head.{Head}
 use Rattle.job.specs.Reading.{Progress, Reading, reading_from, fresh}
 use Rattle.lines.specs.Lines.{rows_text}
-use Rattle.job.specs.Lines.{line_of_fault, empty_note, count_text, not_made}
+use Rattle.records.specs.Faults.{line_of_fault}
+use Rattle.job.specs.Lines.{empty_note, count_text, not_made}
 
 -- a sound job: the rows of the picture and the note, or, with calls in the job, that they were not made
 abbrev pub sound_text : Head → ℕ → List ℕ → List ℕ

@@ -7,8 +7,7 @@ ghost use Rattle.job.specs.Lines.{not_made};
 ghost use Rattle.job.specs.Texts.{sound_text, fault_ending, job_text};
 
 use crate::reading::JobReader;
-use criteria::Code;
-use lines::{FaultText, Rows};
+use lines::Rows;
 use records::{Head, ReaderFault, Stop};
 use std::alloc::{AllocError, Global};
 use std::fmt;
@@ -55,10 +54,6 @@ fn sound_report(
 fn fault_report(heap: Global, calls: usize, fault: ReaderFault) -> Result<String, AllocError>
     ensures { IfOk result (λ text. string_bytes text ≡ fault_ending fault calls) }
 {
-    let fault = FaultText {
-        code: Code::from(fault),
-        at: fault.added_record(),
-    };
     format!(in heap; "{}{fault}\n", NotMade(calls))
 }
 

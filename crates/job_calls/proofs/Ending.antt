@@ -23,7 +23,8 @@ use Rattle.records.specs.declared.stop.Stop.TheVariants.{Fault, Memory}
 use Rattle.records.specs.Jobs.{Job, tile_records, call_records, records_of, Sound}
 use Rattle.job_calls.specs.Stops.{Bad, Stops, at_seat, in_calls}
 use Rattle.job_calls.specs.Made.{Made, grey_setting}
-use Rattle.job_calls.specs.Lines.{line_of_fault, call_lines}
+use Rattle.records.specs.Faults.{line_of_fault}
+use Rattle.job_calls.specs.Lines.{call_lines}
 use Rattle.job_calls.specs.Calling.{Performed, Went, RefusedAt}
 use Rattle.job_calls.specs.Prints.{Ending, closing_text, Prints, whole, unseated, broken_off}
 use Rattle.job_calls.specs.Ends.{Taken, TakesTile, Filters, AfterCalls, Ends}

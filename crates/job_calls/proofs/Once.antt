@@ -15,7 +15,8 @@ use Rattle.records.specs.Reading.{judged}
 use Rattle.records.specs.Jobs.{Job, job_bytes, Sound}
 use Rattle.job_calls.specs.Stops.{Stops}
 use Rattle.job_calls.specs.Made.{Made, asked, grey_setting}
-use Rattle.job_calls.specs.Lines.{line_of_fault, call_lines}
+use Rattle.records.specs.Faults.{line_of_fault}
+use Rattle.job_calls.specs.Lines.{call_lines}
 use Rattle.job_calls.specs.Prints.{Ending, closing_text, whole, unseated, broken_off, Printed}
 use Rattle.records.specs.Jobs.{records_in, left_over}
 use Rattle.job_calls.specs.Laws.{Outcome, done, stopped, ComesTo, as_job, to_fault, EndsWith}

@@ -12,7 +12,8 @@ use Rattle.records.specs.Records.{pixels}
 use Rattle.records.specs.Jobs.{Job, tile_records, records_of, Tile, Sound}
 use Rattle.job_calls.specs.Stops.{Stops}
 use Rattle.job_calls.specs.Made.{Made}
-use Rattle.job_calls.specs.Lines.{line_of_fault, call_lines}
+use Rattle.records.specs.Faults.{line_of_fault}
+use Rattle.job_calls.specs.Lines.{call_lines}
 use Rattle.job_calls.specs.Prints.{Ending, Prints}
 
 -- The first n records are a tile with these map bytes and grey bytes.

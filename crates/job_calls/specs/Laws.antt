@@ -6,7 +6,8 @@ use Rattle.records.specs.declared.fault.ReaderFault.{ReaderFault}
 use Rattle.records.specs.Jobs.{Job, job_bytes, Sound}
 use Rattle.job_calls.specs.Stops.{Stops}
 use Rattle.job_calls.specs.Made.{Made}
-use Rattle.job_calls.specs.Lines.{line_of_fault, call_lines}
+use Rattle.records.specs.Faults.{line_of_fault}
+use Rattle.job_calls.specs.Lines.{call_lines}
 use Rattle.job_calls.specs.Prints.{Ending, closing_text, Printed}
 use Rattle.records.specs.Jobs.{records_in, left_over}
 

@@ -4,9 +4,7 @@ use Rattle.std.specs.List.{zip}
 use Rattle.std.proofs.Math.Utf8.{encode}
 use Rattle.std.specs.Fmt.{signed_decimal}
 use Rattle.std.specs.declared.alloc.AllocError.{AllocError}
-use Rattle.lines.specs.Lines.{newline, fault_line}
-use Rattle.records.specs.declared.fault.ReaderFault.{ReaderFault}
-use Rattle.records.specs.Faults.{reader_code, record_of_fault}
+use Rattle.lines.specs.Lines.{newline}
 use Rattle.records.specs.Encoding.{operation_letter}
 use Rattle.morphology.specs.declared.calls.Levels.{Levels}
 use Rattle.morphology.specs.Calls.{Call}
@@ -16,10 +14,6 @@ use Rattle.bench.specs.Calls.{Answer}
 -- a piece is added to a text, unless memory is wanting
 abbrev pub Appends : List ℕ → List ℕ → List ℕ → Result (Unit {0}) AllocError → Type 0
 Appends before piece after r = IfOk r (λ u. after ≡ before ++ piece)
-
--- the line of a fault
-abbrev pub line_of_fault : ReaderFault → List ℕ
-line_of_fault f = fault_line (reader_code f) (record_of_fault f)
 
 -- 0 for a call that was accepted, and else the number of its fault
 abbrev pub number_of_answer : Answer → ℕ

@@ -11,7 +11,8 @@ use Rattle.lines.specs.Lines.{rows_text}
 use Rattle.records.specs.Jobs.{Job, records_of, records_in, left_over, Sound}
 use Rattle.job_calls.specs.Stops.{Stops}
 use Rattle.job_calls.specs.Made.{Made}
-use Rattle.job_calls.specs.Lines.{line_of_fault, call_lines, note_line, differing, inclusions_text}
+use Rattle.records.specs.Faults.{line_of_fault}
+use Rattle.job_calls.specs.Lines.{call_lines, note_line, differing, inclusions_text}
 
 -- what is printed once all calls are made: from the head, the picture as taken and as filtered, the levels and the accepted count
 abbrev pub Ending : Type 0

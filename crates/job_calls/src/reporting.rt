@@ -11,8 +11,7 @@ use crate::seating::seat_at;
 use crate::tile::read_tile;
 use crate::view::{Done, Inclusions, RowsAndNote, View};
 use bench::{Bench, BenchFault};
-use criteria::{Code, Criterion};
-use lines::FaultText;
+use criteria::Criterion;
 use maps::Map;
 use records::{Head, Reader, ReaderFault, Stop, Tile};
 use std::alloc::{AllocError, Global};
@@ -117,10 +116,6 @@ fn print<V: View>(heap: Global, job: &[u8]) -> Result<String, AllocError>
     match run::<V>(heap, job, &mut text) {
         Ok(()) => Ok(text),
         Err(Stop::Fault(fault)) => {
-            let fault = FaultText {
-                code: Code::from(fault),
-                at: fault.added_record(),
-            };
             writeln!(text, "{fault}")?;
             Ok(text)
         }

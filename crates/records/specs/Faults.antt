@@ -1,7 +1,8 @@
 -- The layer, the number and the place of each fault that a job can meet. Assumes nothing.
-use Rattle.std.specs.Prelude.{ℕ, Some, None, Option}
+use Rattle.std.specs.Prelude.{ℕ, List, Some, None, Option}
 use Rattle.criteria.specs.declared.fault.Layer.TheVariants as layer
 use Rattle.criteria.specs.declared.fault.Code.{Code}
+use Rattle.lines.specs.Lines.{fault_line}
 use Rattle.bench.specs.Faults.{bench_code}
 use Rattle.records.specs.declared.fault.ReaderFault.{ReaderFault}
 use Rattle.records.specs.declared.fault.ReaderFault.TheVariants.{Torn, Letter, Order, Filler, Bench}
@@ -21,3 +22,7 @@ record_of_fault (Letter n) = None
 record_of_fault (Order n) = None
 record_of_fault (Filler n) = None
 record_of_fault (Bench f n) = Some n
+
+-- the line of a fault
+abbrev pub line_of_fault : ReaderFault → List ℕ
+line_of_fault f = fault_line (reader_code f) (record_of_fault f)

@@ -1,9 +1,12 @@
 // What can end a job.
-ghost use Rattle.std.specs.Prelude.{◌≡◌};
+ghost use Rattle.std.specs.Prelude.{◌≡◌, Some};
+ghost use Rattle.lines.specs.Lines.{fault_text};
 ghost use Rattle.records.specs.Faults.{reader_code, record_of_fault};
 
 use bench::BenchFault;
 use criteria::{Code, Layer};
+use lines::FaultText;
+use std::fmt;
 
 // A fault of the reader has the number of its record; one from below travels up whole, and the reader adds the number.
 #[derive(Clone, Copy, Debug, PartialEq, Eq)]
@@ -48,5 +51,17 @@ impl ReaderFault {
             ReaderFault::Bench(_, number) => Some(number),
             _ => None,
         }
+    }
+}
+
+impl fmt::Display for ReaderFault {
+    ghost output = { λ f. Some (fault_text (reader_code f) (record_of_fault f)) };
+
+    fn fmt<W: fmt::Write>(&self, f: &mut fmt::Formatter<W>) -> fmt::Result {
+        let fault = FaultText {
+            code: Code::from(*self),
+            at: self.added_record(),
+        };
+        write!(f, "{fault}")
     }
 }

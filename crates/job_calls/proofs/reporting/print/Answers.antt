@@ -8,4 +8,4 @@ returns-in-Ok g c = c.in-Ok.ensures
 pub returns-in_ok-writeln-in-Err-Fault : goal.returns-in_ok-writeln-in-Err-Fault
 returns-in_ok-writeln-in-Err-Fault g c =
     let stop = c.in-Err-Fault in
-    rw (c.in_ok-writeln-in-Err-Fault.ensures.bytes, c.from.ensures, c.added_record.ensures) (ended_by _ _ _ _ _ stop.field-0 stop.fault stop.ensures stop.field-0-is refl)
+    rw c.in_ok-writeln-in-Err-Fault.ensures.bytes (ended_by _ _ _ _ _ stop.field-0 stop.fault stop.ensures stop.field-0-is refl)
