@@ -1,6 +1,5 @@
 -- Records read one at a time. Assumes nothing.
-use Rattle.std.proofs.Common.{◌≡◌, ℕ, ◌+◌, ◌<◌, ◌≤◌, Bool, true, false, cond, eqb, List, [], length, get_or, drop, Some, None, Ok, Err, Result, sym, refl, add-one, arith, drop-cons, length-append}
-use lib.Seq.{drop-length}
+use Rattle.std.proofs.Common.{◌≡◌, ℕ, ◌+◌, ◌<◌, ◌≤◌, Bool, true, false, cond, eqb, List, [], length, get_or, drop, None, Ok, Err, Result, sym, refl, add-one, arith, drop-cons, length-append}
 use Rattle.std.proofs.lemmas.Bool.{eqb-true}
 use Rattle.records.specs.declared.fault.ReaderFault.{ReaderFault}
 use Rattle.records.specs.declared.records.Head.{Head}
@@ -9,7 +8,7 @@ use Rattle.records.specs.declared.records.Record.TheVariants as sound
 use Rattle.records.specs.declared.place.Place.{Place}
 use Rattle.records.specs.declared.place.Place.TheVariants as place
 use Rattle.records.specs.Records.{pixels, map_bytes, grey_bytes}
-use Rattle.records.specs.Reading.{taken, place_after, among, ended}
+use Rattle.records.specs.Reading.{taken, place_after, among}
 use Rattle.records.specs.Encoding.{Comes, head, pixel, call}
 use Rattle.records.proofs.Encodings.{only_may_come}
 use Rattle.job.specs.Reading.{Progress, pixels_read, Filled, progress_after, record_fault, reached, read_on}

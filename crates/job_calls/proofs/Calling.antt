@@ -108,4 +108,4 @@ module _ (s : Setting ℕ ℕ) where
       where
         none_left : (b : Bool) → eqb left 0 ≡ b → Ok h ≡ cond b (done (n + length records) p) (Err (Torn (n + length records))) → left ≡ 0
         none_left true q e = eqb-true left 0 q
-        none_left false q e = let z : ◌≡◌ {A = ℕ} 0 1 = cc in absurd (omega arith)
+        none_left false q e = absurd cc

@@ -32,7 +32,7 @@ found_is (Some i) = refl
 
 none_found : (o : Option ℕ) → None ≡ found o → o ≡ None
 none_found None e = refl
-none_found (Some i) e = let z : ◌≡◌ {A = ℕ} 0 1 = cc in absurd (omega arith)
+none_found (Some i) e = absurd cc
 
 -- a map that can be made has a value for each of its pixels
 pub map_passes : (w h t n : ℕ) → first_fault (map_checks w h t n) ≡ None → (0 < w * h) × (n ≡ w * h)
@@ -66,12 +66,12 @@ module _ (j : Judgement ℕ) (map : Map ℕ) (values : List ℕ) (w h t : ℕ) (
       MatchResult r (λ b. q ≡ Ok b) (λ f. IsErrAnd q (λ g. g ≡ reader.Bench f n)) →
       MatchResult q (λ _. FirstNot j.admits values None) (RefusedAt n (λ i. FirstNot j.admits values (Some i)))
   admission (Ok c) (Ok b) n e m = subst (FirstNot j.admits values) (none_found (first_not j.admits values) (e ∙ checks)) (first_not_is j.admits values)
-  admission (Ok c) (Err f) n e m = let z : ◌≡◌ {A = ℕ} 0 1 = cc in absurd (omega arith)
+  admission (Ok c) (Err f) n e m = absurd cc
   admission (Err g) (Ok b) n e m = absurd m
   admission (Err g) (Err f) n e m = at (first_not j.admits values) refl (e ∙ checks)
     where
       at : (o : Option ℕ) → first_not j.admits values ≡ o → Some g ≡ found o → RefusedAt n (λ i. FirstNot j.admits values (Some i)) f
-      at None p s = let z : ◌≡◌ {A = ℕ} 0 1 = cc in absurd (omega arith)
+      at None p s = absurd cc
       at (Some i) p s =
           let which : g ≡ fault.Map (Inadmissible i) = cc in
           record {

@@ -79,7 +79,7 @@ not_whole (pixels_of h m g passes same le) more = at (eqb (length m) (pixels h))
 -- and of one that is
 pub whole : {m g : List ℕ} {p : Place} {front : List (List ℕ)} (records : List (List ℕ)) (n : ℕ) (h : Head) → SoFar m g p front → p ≡ place.Calls h →
     n ≤ length records → take n records ≡ front → Taken records n h m g
-whole records n h no_head e fits f = let z : ◌≡◌ {A = ℕ} 0 1 = cc in absurd (omega arith)
+whole records n h no_head e fits f = absurd cc
 whole records n h (pixels_of k m g passes same le) e fits f = at (eqb (length m) (pixels k)) refl e
   where
     at : (b : Bool) → eqb (length m) (pixels k) ≡ b → cond b (place.Calls k) (place.Pixels k (length m)) ≡ place.Calls h → Taken records n h m g
@@ -94,7 +94,7 @@ whole records n h (pixels_of k m g passes same le) e fits f = at (eqb (length m)
           within = fits;
           front = f;
         })
-    at false q e = let z : ◌≡◌ {A = ℕ} 0 1 = cc in absurd (omega arith)
+    at false q e = absurd cc
 
 -- a record of a tile that is not whole leads on
 leads : {bs m g : List ℕ} {p : Place} {front : List (List ℕ)} {r : Record} (n : ℕ) → SoFar m g p front → takes_calls p ≡ false → Eight bs → taken n p bs ≡ Ok r →

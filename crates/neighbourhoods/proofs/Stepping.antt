@@ -32,7 +32,7 @@ data Kind (joining : ℕ) : Shift → Shift → Type 0 where
 -- shifts
 some_by : (t : Bool) (x b : ℕ) → cond t (Some x) None ≡ Some b → (t ≡ true) × (x ≡ b)
 some_by true x b e = (refl, cc)
-some_by false x b e = let z : ◌≡◌ {A = ℕ} 0 1 = cc in absurd (omega arith)
+some_by false x b e = absurd cc
 
 module _ (side : ℕ) where
   moved : (s : Shift) (a b : ℕ) → shifted side s a ≡ Some b → Moved s a b
@@ -174,9 +174,9 @@ record Both (w : ℕ) (row-there column-there : Option ℕ) (q : ℕ) : Type 0 w
 
 both : (w : ℕ) (r c : Option ℕ) (q : ℕ) → pixel_in w r c ≡ Some q → Both w r c q
 both w (Some r) (Some c) q e = record { r = r; c = c; row_is = refl; column_is = refl; pixel = cc }
-both w (Some r) None q e = let z : ◌≡◌ {A = ℕ} 0 1 = cc in absurd (omega arith)
-both w None (Some c) q e = let z : ◌≡◌ {A = ℕ} 0 1 = cc in absurd (omega arith)
-both w None None q e = let z : ◌≡◌ {A = ℕ} 0 1 = cc in absurd (omega arith)
+both w (Some r) None q e = absurd cc
+both w None (Some c) q e = absurd cc
+both w None None q e = absurd cc
 
 module _ (w h joining p : ℕ) (in_tile : p < w * h) where
   -- what a step that leads from p to q does to row and column

@@ -74,15 +74,9 @@ impl Shift {
         ensures inside { IfSome result (λ to. to < side) }
     {
         match self {
-            Shift::Back => { if from > 0 { Some(from - 1) } else { None } }
+            Shift::Back => from.checked_sub(1),
             Shift::Stay => Some(from),
-            Shift::On => {
-                if from + 1 < side {
-                    Some(from + 1)
-                } else {
-                    None
-                }
-            }
+            Shift::On => (from + 1 < side).then_some(from + 1),
         }
     }
 }

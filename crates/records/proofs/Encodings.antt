@@ -151,7 +151,7 @@ written n p bs (kind.Call o) len small a =
     elim a.letters [ as_call b0 b1 ↦ let all = eight bs len in cc ]
 
 onto : (n : ℕ) (p : Place) (bs : List ℕ) (r : Record) (o : Option Kind) → kind_of bs ≡ o → lettered n p o bs ≡ Ok r → (k : Kind) × Passed n p bs k × (record_of k bs ≡ r)
-onto n p bs r None q e = let z : ◌≡◌ {A = ℕ} 0 1 = cc in absurd (omega arith)
+onto n p bs r None q e = absurd cc
 onto n p bs r (Some k) q e = let a = passed n p bs k r q e in (k, a.0, a.1)
 
 pub only_may_come : (n : ℕ) (p : Place) (bs : List ℕ) (r : Record) → taken n p bs ≡ Ok r → Comes p r

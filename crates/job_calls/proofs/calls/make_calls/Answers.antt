@@ -4,7 +4,7 @@ use Rattle.std.proofs.lemmas.Result.{err_from_is_err_and}
 use Rattle.bench.specs.Settings.{standing}
 use Rattle.job_calls.specs.Made.{grey_setting}
 use Rattle.job_calls.specs.Calling.{Performed}
-use Rattle.job_calls.proofs.Calling.{performed_none, performed_more, stopped, torn, done_all}
+use Rattle.job_calls.proofs.Calling.{performed_none, performed_more, stopped, torn}
 use Rattle.job_calls.proofs.calls.make_calls.Goals as goal
 
 pub loop-index-init : goal.loop-index-init
