@@ -10,7 +10,7 @@ use Rattle.morphology.specs.Calls.{Call}
 use Rattle.morphology.specs.Levels.{touched}
 use Rattle.maps.specs.declared.tile.Tile.{Tile}
 use Rattle.maps.specs.Joinings.{number_of}
-use Rattle.bench.specs.declared.scratch.Room.{Room}
+use Rattle.operators.specs.declared.room.Room.{Room}
 use Rattle.bench.specs.declared.fault.BenchFault.{BenchFault}
 use Rattle.bench.specs.declared.fault.BenchFault.TheVariants as fault
 use Rattle.bench.specs.declared.fault.Misfit.TheVariants as misfit

@@ -1,5 +1,5 @@
 -- What the calls on a bench are handed, what they find, and what they are asked. Assumes nothing.
-use Rattle.std.specs.Prelude.{ℕ, List, length}
+use Rattle.std.specs.Prelude.{ℕ, List}
 use Rattle.scales.specs.Scales.{Grading}
 use Rattle.criteria.specs.Criteria.{Judgement}
 use Rattle.maps.specs.declared.map.Map.{Map}
@@ -8,7 +8,8 @@ use Rattle.morphology.specs.declared.calls.Operation.{Operation}
 use Rattle.morphology.specs.Neighbourhoods.{Ground}
 use Rattle.morphology.specs.Calls.{Call}
 use Rattle.bench.specs.declared.bench.Bench.{Bench}
-use Rattle.bench.specs.declared.scratch.Room.{Room}
+use Rattle.operators.specs.declared.room.Room.{Room}
+use Rattle.operators.specs.Operations.{room_of}
 
 -- what every call of a list is handed: the scale of the picture's values, the criterion's judgement and the map
 pub record Setting (V S : Type 0) : Type 1 where
@@ -41,10 +42,6 @@ calling operation size = record { operation = operation; size = size }
 pub record Asked : Type 0 where
   pub call : Call
   pub room : Room
-
--- the room of this scratch
-abbrev pub room_of : {S : Type 0} → List ℕ → List ℕ → List S → Room
-room_of marks queue spare = record { marks = length marks; queue = length queue; spare = length spare }
 
 -- a call of this operation and size, handed this scratch
 abbrev pub asking : {S : Type 0} → Operation → ℕ → List ℕ → List ℕ → List S → Asked

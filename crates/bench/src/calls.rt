@@ -5,12 +5,12 @@ ghost use Rattle.bench.specs.Calls.{Filtered, Cleared};
 use crate::bench::Bench;
 use crate::checks::check_handed;
 use crate::fault::BenchFault;
-use crate::scratch::{Room, Scratch};
+use crate::scratch::Scratch;
 use criteria::Criterion;
 use maps::Map;
 use morphology::Operation;
 use neighbourhoods::Lent;
-use operators::operate;
+use operators::{Room, operate};
 use scales::Scale;
 
 // Does the call or refuses it, and leaves the scratch as it comes.

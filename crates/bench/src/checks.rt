@@ -6,9 +6,9 @@ ghost use Rattle.maps.specs.Windows.{pixels_of};
 ghost use Rattle.bench.specs.Checks.{from_map, matches, seat_checks, room_checks, handed_checks, size_check, level_check, book_check};
 
 use crate::fault::{BenchFault, Misfit};
-use crate::scratch::Room;
 use criteria::{Criterion, Part};
 use maps::{Map, Tile, check_admitted};
+use operators::Room;
 
 // Whether the map has a pixel, and this width, height and joining.
 fn fits<V>(map: &Map<V>, tile: Tile) -> bool

@@ -7,11 +7,3 @@ pub struct Scratch<'a, S> {
     pub queue: &'a mut [u32],
     pub spare: &'a mut [S],
 }
-
-// How many entries each part of a scratch has.
-#[derive(Clone, Copy)]
-pub struct Room {
-    pub marks: usize,
-    pub queue: usize,
-    pub spare: usize,
-}

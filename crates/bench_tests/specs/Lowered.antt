@@ -2,7 +2,7 @@
 use Rattle.std.specs.Prelude.{ℕ, List, [], ◌∷◌}
 use Rattle.morphology.specs.declared.calls.Operation.TheVariants.{Erode, Open}
 use Rattle.bench.specs.declared.bench.Bench.{Bench}
-use Rattle.bench.specs.declared.scratch.Room.{Room}
+use Rattle.operators.specs.declared.room.Room.{Room}
 use Rattle.bench.specs.Settings.{Setting, calling, standing}
 use Rattle.bench.specs.Calls.{Answer, Run}
 use Rattle.bench.specs.Laws.{Seated}

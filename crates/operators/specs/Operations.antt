@@ -1,5 +1,5 @@
 -- What an operation does to a picture, and what it refuses. Assumes nothing.
-use Rattle.std.specs.Prelude.{◌≡◌, ℕ, List, [], ◌∷◌, Ok, Err, Result, ◌==◌, nat_le}
+use Rattle.std.specs.Prelude.{◌≡◌, ℕ, List, [], ◌∷◌, length, Ok, Err, Result, ◌==◌, nat_le}
 use Rattle.scales.specs.Scales.{Grading}
 use Rattle.morphology.specs.declared.calls.Operation.{Operation}
 use Rattle.morphology.specs.Neighbourhoods.{Ground}
@@ -7,6 +7,7 @@ use Rattle.morphology.specs.Pictures.{dilation, erosion}
 use Rattle.morphology.specs.Calls.{act}
 use Rattle.maps.specs.Checks.{Check}
 use Rattle.criteria.specs.declared.fault.Part.TheVariants as part
+use Rattle.operators.specs.declared.room.Room.{Room}
 use Rattle.operators.specs.declared.fit.Unfit.{Unfit}
 use Rattle.operators.specs.declared.fit.Unfit.TheVariants as unfit
 
@@ -14,13 +15,17 @@ use Rattle.operators.specs.declared.fit.Unfit.TheVariants as unfit
 abbrev pub operated : {S : Type 0} → Grading S → Ground → Operation → ℕ → List S → List S
 operated scale g o p f = act (dilation scale g) (erosion scale g) o p f
 
--- a map of n pixels: the picture has this many values, and marks, queue and spare picture have an entry for each pixel
-abbrev pub fit_checks : ℕ → ℕ → ℕ → ℕ → ℕ → List (Check Unfit)
-fit_checks n picture marks queue spare =
+-- the room of this scratch
+abbrev pub room_of : {S : Type 0} → List ℕ → List ℕ → List S → Room
+room_of marks queue spare = record { marks = length marks; queue = length queue; spare = length spare }
+
+-- a map of n pixels: the picture has this many values, and each part of the scratch has an entry for each pixel
+abbrev pub fit_checks : ℕ → ℕ → Room → List (Check Unfit)
+fit_checks n picture room =
     record { holds = (picture == n); fault = unfit.Picture }
-    ∷ record { holds = nat_le n marks; fault = unfit.Scratch part.Marks }
-    ∷ record { holds = nat_le n queue; fault = unfit.Scratch part.Queue }
-    ∷ record { holds = nat_le n spare; fault = unfit.Scratch part.Spare }
+    ∷ record { holds = nat_le n room.marks; fault = unfit.Scratch part.Marks }
+    ∷ record { holds = nat_le n room.queue; fault = unfit.Scratch part.Queue }
+    ∷ record { holds = nat_le n room.spare; fault = unfit.Scratch part.Spare }
     ∷ []
 
 -- a refusal leaves it as it was; otherwise it may hold anything

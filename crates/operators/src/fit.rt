@@ -4,6 +4,7 @@ ghost use Rattle.maps.specs.Checks.{first_fault, answered};
 ghost use Rattle.maps.specs.Windows.{pixels_of};
 ghost use Rattle.operators.specs.Operations.{fit_checks};
 
+use crate::room::Room;
 use criteria::Part;
 use maps::Map;
 
@@ -17,30 +18,24 @@ pub enum Unfit {
 }
 
 // Refuses a picture whose count is not the map's, and marks, a queue or a spare picture without an entry for each pixel.
-pub(crate) fn check_fit<V>(
-    map: &Map<V>,
-    picture: usize,
-    marks: usize,
-    queue: usize,
-    spare: usize,
-) -> Result<(), Unfit>
-    ensures answer { result ≡ answered (first_fault (fit_checks (pixels_of map.now) picture marks queue spare)) tt }
+pub(crate) fn check_fit<V>(map: &Map<V>, picture: usize, room: Room) -> Result<(), Unfit>
+    ensures answer { result ≡ answered (first_fault (fit_checks (pixels_of map.now) picture room)) tt }
     ensures picture { OnOk result (picture ≡ pixels_of map.now) }
-    ensures marks { OnOk result (pixels_of map.now ≤ marks) }
-    ensures queue { OnOk result (pixels_of map.now ≤ queue) }
-    ensures spare { OnOk result (pixels_of map.now ≤ spare) }
+    ensures marks { OnOk result (pixels_of map.now ≤ room.marks) }
+    ensures queue { OnOk result (pixels_of map.now ≤ room.queue) }
+    ensures spare { OnOk result (pixels_of map.now ≤ room.spare) }
 {
     let pixels = map.pixels();
     if picture != pixels {
         return Err(Unfit::Picture);
     }
-    if marks < pixels {
+    if room.marks < pixels {
         return Err(Unfit::Scratch(Part::Marks));
     }
-    if queue < pixels {
+    if room.queue < pixels {
         return Err(Unfit::Scratch(Part::Queue));
     }
-    if spare < pixels {
+    if room.spare < pixels {
         return Err(Unfit::Scratch(Part::Spare));
     }
     Ok(())

@@ -4,7 +4,9 @@
 mod fit;
 mod operations;
 mod operator;
+mod room;
 mod step;
 
 pub use fit::Unfit;
 pub use operations::operate;
+pub use room::Room;

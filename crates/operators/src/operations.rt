@@ -6,11 +6,12 @@ ghost use Rattle.maps.specs.Grounds.{ground};
 ghost use Rattle.morphology.specs.Algebra.{times};
 ghost use Rattle.morphology.specs.Pictures.{dilation};
 ghost use Rattle.neighbourhoods.specs.Zeros.{zeros};
-ghost use Rattle.operators.specs.Operations.{operated, fit_checks, KeptIfRefused};
+ghost use Rattle.operators.specs.Operations.{operated, room_of, fit_checks, KeptIfRefused};
 ghost use Rattle.operators.specs.Steps.{towards, Ready};
 
 use crate::fit::{Unfit, check_fit};
 use crate::operator::{Dilation, Erosion, Operator};
+use crate::room::Room;
 use crate::step::step;
 use criteria::Criterion;
 use maps::Map;
@@ -83,8 +84,7 @@ pub fn operate<C: Criterion, S: Scale>(
     queue: &mut [u32],
     spare: &mut [S],
 ) -> Result<(), Unfit>
-    ensures answer { result ≡ answered (first_fault (fit_checks (pixels_of map.now) (length picture.old)
-        (length marks.old) (length queue.old) (length spare.old))) tt }
+    ensures answer { result ≡ answered (first_fault (fit_checks (pixels_of map.now) (length picture.old) (room_of marks.old queue.old spare.old))) tt }
     ensures picture { picture.new ≡ left_by result
         (operated S.grading (ground (C.judgement criterion.now) map.now) operation size picture.old)
         picture.old }
@@ -92,7 +92,12 @@ pub fn operate<C: Criterion, S: Scale>(
     ensures queue { KeptIfRefused result queue.old queue.new }
     ensures spare { KeptIfRefused result spare.old spare.new }
 {
-    check_fit(map, picture.len(), marks.len(), queue.len(), spare.len())?;
+    let room = Room {
+        marks: marks.len(),
+        queue: queue.len(),
+        spare: spare.len(),
+    };
+    check_fit(map, picture.len(), room)?;
     clear_all(marks);
     let spare = &mut spare[..picture.len()];
     operate_within(

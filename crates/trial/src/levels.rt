@@ -59,13 +59,15 @@ pub fn try_levels(rt: &impl Print) -> Result<(), Failure> {
     for _ in 0..4 {
         call(&mut seated, &map, &step, Operation::Dilate, 15)?;
     }
-    let answer = call(&mut seated, &map, &step, Operation::Dilate, 5);
-    print_answer(rt, 'D', 5, answer)?;
-    let answer = call(&mut seated, &map, &step, Operation::Close, 5);
-    print_answer(rt, 'C', 5, answer)?;
-    let answer = call(&mut seated, &map, &step, Operation::Open, 16);
-    print_answer(rt, 'O', 16, answer)?;
-    let answer = call(&mut seated, &map, &step, Operation::Dilate, 4);
-    print_answer(rt, 'D', 4, answer)?;
+    let tried = [
+        ('D', Operation::Dilate, 5),
+        ('C', Operation::Close, 5),
+        ('O', Operation::Open, 16),
+        ('D', Operation::Dilate, 4),
+    ];
+    for (letter, operation, size) in tried {
+        let answer = call(&mut seated, &map, &step, operation, size);
+        print_answer(rt, letter, size, answer)?;
+    }
     Ok(())
 }

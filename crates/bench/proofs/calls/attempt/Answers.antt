@@ -1,7 +1,8 @@
 use Rattle.std.proofs.Common.{length, refl}
 use Rattle.std.proofs.lemmas.Result.{err_from_is_err_and}
 use Rattle.morphology.specs.Levels.{moved}
-use Rattle.bench.specs.Settings.{calling, room_of}
+use Rattle.operators.specs.Operations.{room_of}
+use Rattle.bench.specs.Settings.{calling}
 use Rattle.bench.specs.Checks.{handed_checks, level_checks}
 use Rattle.bench.proofs.Passing.{refused_early, refused_late}
 use Rattle.bench.proofs.calls.attempt.Goals as goal
