@@ -12,7 +12,7 @@ use crate::view::{Done, Inclusions, RowsAndNote, View};
 use bench::{Bench, BenchFault};
 use criteria::Criterion;
 use maps::Map;
-use records::{ReaderFault, Stop};
+use records::{Cut, ReaderFault, Stop};
 use std::alloc::{AllocError, Global};
 
 impl TakenTile<'_> {
@@ -26,7 +26,7 @@ impl TakenTile<'_> {
         requires judged { C.judgement criterion.now ≡ judged self.now.head }
         requires picture { picture.old ≡ self.now.bytes.picture.items }
         requires text { string_bytes text.old ≡ [] }
-        ensures { (ending : Ending) → AfterCalls ending self.now.records.now self.now.left
+        ensures { (ending : Ending) → AfterCalls ending self.now.cut.records.now self.now.cut.left
             self.now.head self.now.bytes.picture.items result picture.new (string_bytes text.new) }
     {
         let taken = self.taken;
@@ -42,8 +42,10 @@ impl TakenTile<'_> {
         make_calls(
             self.reader,
             taken,
-            &self.records[taken..],
-            self.left,
+            Cut {
+                records: &self.cut.records[taken..],
+                left: self.cut.left,
+            },
             &mut bench,
             &map,
             criterion,
@@ -56,7 +58,7 @@ impl TakenTile<'_> {
     // Filters a copy of the tile by the criterion that its head asks for, and adds the lines of its calls and the ending.
     fn finish<V: View>(&self, heap: Global, text: &mut String) -> Result<(), Stop>
         requires { string_bytes text.old ≡ [] }
-        ensures { Ends V.ending self.now.records.now self.now.left result (string_bytes text.new) }
+        ensures { Ends V.ending self.now.cut.records.now self.now.cut.left result (string_bytes text.new) }
     {
         let criterion = self
             .head
@@ -82,8 +84,7 @@ fn run<V: View>(heap: Global, job: &[u8], text: &mut String) -> Result<(), Stop>
     requires { string_bytes text.old ≡ [] }
     ensures { Ends V.ending (records_in job.now) (left_over job.now) result (string_bytes text.new) }
 {
-    let (records, torn) = job.as_chunks::<8>();
-    let tile = read_tile(heap, records, torn.len())?;
+    let tile = read_tile(heap, Cut::of(job))?;
     tile.finish::<V>(heap, text)
 }
 

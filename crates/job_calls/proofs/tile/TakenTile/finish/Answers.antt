@@ -9,7 +9,7 @@ returns-in_err-bench g c =
     let ending = g.V.View.ending in
     let t = c.args.self.now in
     let p = err_from_is_err_and c.from_residual-in_err-bench.result c.from_residual-in_err-bench.ensures.1 in
-    rw (p.1, p.2) (left_off ending t.records.now t.left t.head t.bytes.picture.items c.filter.new.picture (string_bytes c.filter.new.text) c.in_err-bench.field-0.0 (c.in_err-bench.ensures ending))
+    rw (p.1, p.2) (left_off ending t.cut.records.now t.cut.left t.head t.bytes.picture.items c.filter.new.picture (string_bytes c.filter.new.text) c.in_err-bench.field-0.0 (c.in_err-bench.ensures ending))
 
 pub returns : goal.returns
 returns g c =
@@ -23,4 +23,4 @@ returns g c =
     let line : string_bytes c.push.new.text ≡ one ++ ending t.head t.bytes.picture.items picture b.book.levels b.book.count =
     c.in_ok-push.ensures ∙ rw (before, filtered, c.levels-levels.ensures, c.strike.ensures, c.finish.ensures.book) refl
     in
-    printed ending t.records.now t.left t.head t.bytes.picture.items b picture one _ (c.in_ok-bench.ensures ending) line
+    printed ending t.cut.records.now t.cut.left t.head t.bytes.picture.items b picture one _ (c.in_ok-bench.ensures ending) line
