@@ -9,10 +9,10 @@ use crate::calls::make_calls;
 use crate::seating::seat_at;
 use crate::tile::{TakenTile, read_tile};
 use crate::view::{Done, Inclusions, RowsAndNote, View};
-use bench::{Bench, BenchFault};
+use bench::Bench;
 use criteria::Criterion;
 use maps::Map;
-use records::{Cut, ReaderFault, Stop};
+use records::{Cut, Stop};
 use std::alloc::{AllocError, Global};
 
 impl TakenTile<'_> {
@@ -60,10 +60,9 @@ impl TakenTile<'_> {
         requires { string_bytes text.old ≡ [] }
         ensures { Ends V.ending self.now.cut.records.now self.now.cut.left result (string_bytes text.new) }
     {
-        let criterion = self
-            .head
-            .criterion()
-            .map_err(|fault| ReaderFault::Bench(BenchFault::Map(fault), 0))?;
+        let Ok(criterion) = self.head.criterion() else {
+            unreachable()
+        };
         let mut picture = self.bytes.picture.to_vec(heap)?;
         let bench = self.filter(&criterion, &mut picture, text)?;
         let levels = bench.levels();
