@@ -7,7 +7,7 @@ ghost use Rattle.job.specs.Reading.{lay_answer, Filled, fresh};
 
 use bench::BenchFault;
 use maps::Map;
-use records::{Head, Place, Reader, ReaderFault, Record, Stop, Tile};
+use records::{Cut, Head, Place, Reader, ReaderFault, Record, Stop, Tile};
 use std::alloc::Global;
 
 // Lays the map of a head that passed, under its criterion: all its values are admitted.
@@ -69,11 +69,11 @@ impl JobReader {
         ensures passed { IfOk result (λ h. first_fault (head_checks h) ≡ None) }
         ensures rows { IfOk result (λ h. length self.new.tile.picture.items ≡ pixels h) }
     {
-        let (records, torn) = job.as_chunks::<8>();
-        for (number, bytes) in records.iter().enumerate() {
+        let cut = Cut::of(job);
+        for (number, bytes) in cut.records.iter().enumerate() {
             self.advance(number, bytes)?;
         }
-        let head = self.reader.end(records.len(), torn.len())?;
+        let head = self.reader.end(cut.records.len(), cut.left)?;
         Ok(head)
     }
 }

@@ -44,7 +44,6 @@ fn sound_report(
     }
     let rows = Rows {
         width: usize::from(head.width),
-        height: usize::from(head.height),
         picture,
     };
     format!(in heap; "{rows}note 0 0 0 0\n")

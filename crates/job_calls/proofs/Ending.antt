@@ -27,7 +27,7 @@ use Rattle.records.specs.Faults.{line_of_fault}
 use Rattle.job_calls.specs.Lines.{call_lines}
 use Rattle.job_calls.specs.Calling.{Performed, Went, RefusedAt}
 use Rattle.job_calls.specs.Prints.{Ending, closing_text, Prints, whole, unseated, broken_off}
-use Rattle.job_calls.specs.Ends.{Taken, TakesTile, Filters, AfterCalls, Ends}
+use Rattle.job_calls.specs.Ends.{Taken, NoTile, Filters, AfterCalls, Ends}
 
 -- the records from number n on, as a slice has them
 pub rest_is : {A : Type 0} (xs : List A) (n : ℕ) → take (length xs - n) (drop n xs) ≡ drop n xs
@@ -136,11 +136,11 @@ module _ (records : List (List ℕ)) (n left : ℕ) (h : Head) (values grey : Li
       ends (Err f) w = stopped on shows b seated_on admitted_on ending p c filtered old new f none here w
 
 -- what ends the reading of the tile ends the job
-pub unread : (ending : Ending) (records rs : List (List ℕ)) (left k : ℕ) (e : Stop) (p : Place) (map grey text : List ℕ) → records ≡ rs → left ≡ k → text ≡ [] →
-    TakesTile records left (Err e) p map grey → Ends ending rs k (Err e) text
-unread ending records rs left k (Fault f) p map grey text a b none s =
+pub unread : (ending : Ending) (records rs : List (List ℕ)) (left k : ℕ) (e : Stop) (text : List ℕ) → records ≡ rs → left ≡ k → text ≡ [] →
+    NoTile records left e → Ends ending rs k (Err e) text
+unread ending records rs left k (Fault f) text a b none s =
     unseated (subst (λ m. Stops rs m None f) b (subst (λ xs. Stops xs left None f) a s)) (ap (λ t. t ++ line_of_fault f) none)
-unread ending records rs left k (Memory e) p map grey text a b none s = tt
+unread ending records rs left k (Memory e) text a b none s = tt
 
 -- the line of a fault is added
 pub ended_by : (ending : Ending) (records : List (List ℕ)) (left : ℕ) (old new : List ℕ) (e : Stop) (f : ReaderFault) → Ends ending records left (Err e) old → e ≡ Fault f →

@@ -6,8 +6,6 @@ use Rattle.bench.specs.Calls.{Answer}
 use Rattle.records.specs.declared.records.Head.{Head}
 use Rattle.records.specs.declared.stop.Stop.{Stop}
 use Rattle.records.specs.declared.stop.Stop.TheVariants.{Fault, Memory}
-use Rattle.records.specs.declared.place.Place.{Place}
-use Rattle.records.specs.declared.place.Place.TheVariants.{Calls}
 use Rattle.records.specs.Records.{pixels}
 use Rattle.records.specs.Jobs.{Job, tile_records, records_of, Tile, Sound}
 use Rattle.job_calls.specs.Stops.{Stops}
@@ -23,11 +21,10 @@ pub record Taken (records : List (List ℕ)) (n : ℕ) (h : Head) (map grey : Li
   pub within : n ≤ length records
   pub front : take n records ≡ tile_records h map grey
 
--- What came of the first records of a job: its tile, with its head and the number of its records, and the reader is at the calls on it; or a fault ends the job before that; or memory is wanting.
-abbrev pub TakesTile : List (List ℕ) → ℕ → Result (Head × ℕ) Stop → Place → List ℕ → List ℕ → Type 0
-TakesTile records left (Ok t) p map grey = Taken records t.1 t.0 map grey × (p ≡ Calls t.0)
-TakesTile records left (Err (Fault f)) p map grey = Stops records left None f
-TakesTile records left (Err (Memory e)) p map grey = Unit {0}
+-- What ends the reading of these records before their tile is whole: a fault ends the job there, or memory is wanting.
+abbrev pub NoTile : List (List ℕ) → ℕ → Stop → Type 0
+NoTile records left (Fault f) = Stops records left None f
+NoTile records left (Memory e) = Unit {0}
 
 -- The records are a sound job with this head and these grey bytes, and all its calls are made: the bench and the picture that they left, and their lines.
 pub record Filters (records : List (List ℕ)) (left : ℕ) (h : Head) (grey : List ℕ) (b : Bench) (picture text : List ℕ) : Type 0 where

@@ -14,7 +14,7 @@ use bench::{Bench, BenchFault};
 use criteria::{Code, Criterion};
 use maps::Map;
 use morphology::Operation;
-use records::{Reader, ReaderFault, Record, Stop};
+use records::{Cut, Reader, ReaderFault, Record, Stop};
 
 // Takes a C.
 fn take_call(
@@ -92,12 +92,11 @@ fn make_call<C: Criterion<Value = u8>>(
     Ok(())
 }
 
-// Makes the calls of the records from number `first` on, until the end, which has so many bytes left over.
+// Makes the calls of these records, the first of which has the number `first`, until the end.
 pub(crate) fn make_calls<C: Criterion<Value = u8>>(
     reader: Reader,
     first: usize,
-    records: &[[u8; 8]],
-    left: usize,
+    cut: Cut,
     bench: &mut Bench,
     map: &Map<u8>,
     criterion: &C,
@@ -105,13 +104,13 @@ pub(crate) fn make_calls<C: Criterion<Value = u8>>(
     text: &mut String,
 ) -> Result<(), Stop>
     requires calls { takes_calls reader.place ≡ true }
-    requires numbers { first + length records.now < 2 ^ 64 }
+    requires numbers { first + length cut.records.now < 2 ^ 64 }
     ensures { Went (grey_setting (C.judgement criterion.now) map.now)
-        first reader.place records.now left
+        first reader.place cut.entry.records.now cut.entry.left
         (standing bench.old picture.old) (string_bytes text.old)
         result (standing bench.new picture.new) (string_bytes text.new) }
 {
-    for (index, bytes) in records.iter().enumerate() {
+    for (index, bytes) in cut.records.iter().enumerate() {
         make_call(
             reader,
             first + index,
@@ -123,6 +122,6 @@ pub(crate) fn make_calls<C: Criterion<Value = u8>>(
             text,
         )?;
     }
-    reader.end(first + records.len(), left)?;
+    reader.end(first + cut.records.len(), cut.left)?;
     Ok(())
 }

@@ -2,34 +2,18 @@
 ghost use Rattle.std.specs.Prelude.{◌≡◌, [], IfOk, string_bytes};
 ghost use Rattle.records.specs.Jobs.{records_in, left_over};
 ghost use Rattle.records.specs.Reading.{judged};
-ghost use Rattle.records.specs.declared.place.Place.TheVariants as place;
-ghost use Rattle.job_calls.specs.Ends.{Taken, AfterCalls, Ends};
+ghost use Rattle.job_calls.specs.Ends.{AfterCalls, Ends};
 ghost use Rattle.job_calls.specs.Prints.{Ending, Printed, rows_and_note, inclusions};
 
 use crate::calls::make_calls;
 use crate::seating::seat_at;
-use crate::tile::read_tile;
+use crate::tile::{TakenTile, read_tile};
 use crate::view::{Done, Inclusions, RowsAndNote, View};
-use bench::{Bench, BenchFault};
+use bench::Bench;
 use criteria::Criterion;
 use maps::Map;
-use records::{Head, Reader, ReaderFault, Stop, Tile};
+use records::{Cut, Stop};
 use std::alloc::{AllocError, Global};
-
-// A tile that was taken from the front of a job: the reader after it, its head, the job's records and how many of them are the
-// tile's, the bytes left over after all records, and the tile's map bytes and grey bytes.
-#[derive(Clone, Copy)]
-struct TakenTile<'a> {
-    reader: Reader,
-    head: Head,
-    records: &'a [[u8; 8]],
-    taken: usize,
-    left: usize,
-    map: &'a [u8],
-    grey: &'a [u8],
-    ghost tile: { Taken records.now taken head map.now grey.now },
-    ghost calls: { reader.place ≡ place.Calls head },
-}
 
 impl TakenTile<'_> {
     // Seats the picture, and makes the calls of the records after it.
@@ -40,19 +24,28 @@ impl TakenTile<'_> {
         text: &mut String,
     ) -> Result<Bench, Stop>
         requires judged { C.judgement criterion.now ≡ judged self.now.head }
-        requires picture { picture.old ≡ self.now.grey.now }
+        requires picture { picture.old ≡ self.now.bytes.picture.items }
         requires text { string_bytes text.old ≡ [] }
-        ensures { (ending : Ending) → AfterCalls ending self.now.records.now self.now.left
-            self.now.head self.now.grey.now result picture.new (string_bytes text.new) }
+        ensures { (ending : Ending) → AfterCalls ending self.now.cut.records.now self.now.cut.left
+            self.now.head self.now.bytes.picture.items result picture.new (string_bytes text.new) }
     {
         let taken = self.taken;
         let mut map = Map::empty();
-        let mut bench = seat_at(taken - 1, self.head, criterion, &mut map, self.map, picture)?;
+        let mut bench = seat_at(
+            taken - 1,
+            self.head,
+            criterion,
+            &mut map,
+            &self.bytes.map,
+            picture,
+        )?;
         make_calls(
             self.reader,
             taken,
-            &self.records[taken..],
-            self.left,
+            Cut {
+                records: &self.cut.records[taken..],
+                left: self.cut.left,
+            },
             &mut bench,
             &map,
             criterion,
@@ -65,18 +58,17 @@ impl TakenTile<'_> {
     // Filters a copy of the tile by the criterion that its head asks for, and adds the lines of its calls and the ending.
     fn finish<V: View>(&self, heap: Global, text: &mut String) -> Result<(), Stop>
         requires { string_bytes text.old ≡ [] }
-        ensures { Ends V.ending self.now.records.now self.now.left result (string_bytes text.new) }
+        ensures { Ends V.ending self.now.cut.records.now self.now.cut.left result (string_bytes text.new) }
     {
-        let criterion = self
-            .head
-            .criterion()
-            .map_err(|fault| ReaderFault::Bench(BenchFault::Map(fault), 0))?;
-        let mut picture = self.grey.to_vec(heap)?;
+        let Ok(criterion) = self.head.criterion() else {
+            unreachable()
+        };
+        let mut picture = self.bytes.picture.to_vec(heap)?;
         let bench = self.filter(&criterion, &mut picture, text)?;
         let levels = bench.levels();
         let done = Done {
             head: self.head,
-            taken: self.grey,
+            taken: &self.bytes.picture,
             filtered: &picture,
             levels,
             count: bench::finish(bench).strike(),
@@ -91,20 +83,7 @@ fn run<V: View>(heap: Global, job: &[u8], text: &mut String) -> Result<(), Stop>
     requires { string_bytes text.old ≡ [] }
     ensures { Ends V.ending (records_in job.now) (left_over job.now) result (string_bytes text.new) }
 {
-    let (records, torn) = job.as_chunks::<8>();
-    let left = torn.len();
-    let mut reader = Reader::new();
-    let mut bytes = Tile::new(heap);
-    let (head, taken) = read_tile(&mut reader, records, left, &mut bytes)?;
-    let tile = TakenTile {
-        reader,
-        head,
-        records,
-        taken,
-        left,
-        map: &bytes.map,
-        grey: &bytes.picture,
-    };
+    let tile = read_tile(heap, Cut::of(job))?;
     tile.finish::<V>(heap, text)
 }
 

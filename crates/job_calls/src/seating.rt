@@ -8,7 +8,7 @@ ghost use Rattle.bench.specs.Laws.{Seated};
 ghost use Rattle.job_calls.specs.Made.{grey_setting};
 ghost use Rattle.job_calls.specs.Calling.{RefusedAt};
 
-use bench::{Bench, BenchFault};
+use bench::Bench;
 use criteria::Criterion;
 use maps::Map;
 use records::{Head, ReaderFault};
@@ -29,7 +29,8 @@ pub(crate) fn seat_at<'a, C: Criterion<Value = u8>>(
     ensures admitted { MatchResult result (λ _. FirstNot (C.judgement criterion.now).admits values.now None)
         (RefusedAt number (λ i. FirstNot (C.judgement criterion.now).admits values.now (Some i))) }
 {
-    head.lay(map, values)
-        .map_err(|fault| ReaderFault::Bench(BenchFault::Map(fault), number))?;
+    let Ok(()) = head.lay(map, values) else {
+        unreachable()
+    };
     bench::seat(&*map, criterion, picture).map_err(|fault| ReaderFault::Bench(fault, number))
 }

@@ -1,30 +1,43 @@
 // The tile of a job: its H and its P.
-ghost use Rattle.std.specs.Prelude.{◌≡◌, []};
+ghost use Rattle.std.specs.Prelude.{◌≡◌, MatchResult};
 ghost use Rattle.records.specs.declared.place.Place.TheVariants as place;
-ghost use Rattle.job_calls.specs.Ends.{TakesTile};
+ghost use Rattle.job_calls.specs.Ends.{Taken, NoTile};
 
-use records::{Head, Place, Reader, Stop, Tile};
+use records::{Cut, Head, Place, Reader, Stop, Tile};
+use std::alloc::Global;
 
-// Takes records until the tile is whole, and answers its head and how many they were. What comes before that and is no part of a
-// tile is refused.
-pub(crate) fn read_tile(
-    reader: &mut Reader,
-    records: &[[u8; 8]],
-    left: usize,
-    tile: &mut Tile,
-) -> Result<(Head, usize), Stop>
-    requires start { reader.old.place ≡ place.Head }
-    requires map { tile.old.map.items ≡ [] }
-    requires picture { tile.old.picture.items ≡ [] }
-    ensures { TakesTile records.now left result reader.new.place tile.new.map.items tile.new.picture.items }
+// A tile that was taken from the front of a job: the reader after it, its head, the job's records, how many of them are the tile's,
+// and the tile's map bytes and grey bytes.
+#[derive(Drop)]
+pub(crate) struct TakenTile<'a> {
+    pub(crate) reader: Reader,
+    pub(crate) head: Head,
+    pub(crate) cut: Cut<'a>,
+    pub(crate) taken: usize,
+    pub(crate) bytes: Tile,
+    ghost tile: { Taken cut.records.now taken head bytes.map.items bytes.picture.items },
+    ghost calls: { reader.place ≡ place.Calls head },
+}
+
+// Takes records until the tile is whole. What comes before that and is no part of a tile is refused.
+pub(crate) fn read_tile<'a>(heap: Global, cut: Cut<'a>) -> Result<TakenTile<'a>, Stop>
+    ensures { MatchResult result (λ t. (t.cut.records.now ≡ cut.entry.records.now) × (t.cut.left ≡ cut.entry.left)) (NoTile cut.entry.records.now cut.entry.left) }
 {
-    for (number, bytes) in records.iter().enumerate() {
-        let taken = reader.take(number, bytes)?;
-        tile.add(taken)?;
+    let mut reader = Reader::new();
+    let mut bytes = Tile::new(heap);
+    for (number, record) in cut.records.iter().enumerate() {
+        let taken = reader.take(number, record)?;
+        bytes.add(taken)?;
         if let Place::Calls { head } = reader.place() {
-            return Ok((head, number + 1));
+            return Ok(TakenTile {
+                reader,
+                head,
+                cut,
+                taken: number + 1,
+                bytes,
+            });
         }
     }
-    let head = reader.end(records.len(), left)?;
-    Ok((head, records.len()))
+    reader.end(cut.records.len(), cut.left)?;
+    unreachable()
 }

@@ -44,7 +44,6 @@ impl View for RowsAndNote {
     fn push(text: &mut String, done: Done) -> Result<(), AllocError> {
         let rows = Rows {
             width: usize::from(done.head.width),
-            height: usize::from(done.head.height),
             picture: done.filtered,
         };
         let note = NoteLine {

@@ -1,5 +1,5 @@
 // The rows of a picture.
-ghost use Rattle.std.specs.Prelude.{◌*◌, ◌<◌, ◌≤◌, length, Some};
+ghost use Rattle.std.specs.Prelude.{◌/◌, ◌<◌, length, Some};
 ghost use Rattle.lines.specs.Lines.{row_text, rows_text};
 
 use std::fmt;
@@ -22,21 +22,19 @@ impl fmt::Display for Row<'_> {
     }
 }
 
-// The first rows of a picture, a line each.
+// The rows of a picture, a line each; values after the last whole row are left out.
 #[derive(Clone, Copy)]
 pub struct Rows<'a> {
     pub width: usize,
-    pub height: usize,
     pub picture: &'a [u8],
     ghost wide: { 0 < width },
-    ghost within: { width * height ≤ length picture.now },
 }
 
 impl fmt::Display for Rows<'_> {
-    ghost output = { λ r. Some (rows_text r.width r.height r.picture.now) };
+    ghost output = { λ r. Some (rows_text r.width (length r.picture.now / r.width) r.picture.now) };
 
     fn fmt<W: fmt::Write>(&self, f: &mut fmt::Formatter<W>) -> fmt::Result {
-        for row in self.picture.chunks_exact(self.width).take(self.height) {
+        for row in self.picture.chunks_exact(self.width) {
             writeln!(f, "{}", Row(row))?;
         }
         Ok(())

@@ -2,6 +2,7 @@
 #![tactic(auto)]
 
 mod criterion;
+mod cut;
 mod fault;
 mod head;
 mod letters;
@@ -14,6 +15,7 @@ mod theorems;
 mod tile;
 
 pub use criterion::ByteCriterion;
+pub use cut::Cut;
 pub use fault::ReaderFault;
 pub use place::Place;
 pub use records::{Head, Record, Shape};

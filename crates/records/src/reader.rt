@@ -1,5 +1,5 @@
 // The reader takes the records of a job in turn: one H, then a P for each pixel in order, then C until the end.
-ghost use Rattle.std.specs.Prelude.{◌≡◌, ◌<◌, slice_index};
+ghost use Rattle.std.specs.Prelude.{◌≡◌, ◌<◌, length, slice_index};
 ghost use Rattle.records.specs.declared.place.Place.TheVariants as place;
 ghost use Rattle.records.specs.declared.records.Kind.TheVariants as kind;
 ghost use Rattle.records.specs.Reading.{content, numbered, taken, place_after, ended};
@@ -81,6 +81,7 @@ impl Reader {
     pub fn take(&mut self, number: usize, bytes: &[u8; 8]) -> Result<Record, ReaderFault>
         ensures answer { result ≡ taken number self.old.place bytes.now }
         ensures place { self.new.place ≡ place_after result self.old.place }
+        ensures count { length bytes.now ≡ 8 }
         ensures byte { slice_index bytes.now 1 < 256 }
     {
         let kind = Kind::from_bytes(bytes).ok_or(ReaderFault::Letter(number))?;

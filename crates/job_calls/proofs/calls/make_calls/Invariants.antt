@@ -6,5 +6,5 @@ use Rattle.job_calls.proofs.calls.make_calls.Given as goal
 
 abbrev pub invariant-loop-index : goal.invariant-loop-index
 invariant-loop-index g l =
-    Performed (grey_setting (g.C.Criterion.judgement l.criterion) l.map) (take l.index l.records)
+    Performed (grey_setting (g.C.Criterion.judgement l.criterion) l.map) (take l.index l.cut.records.now)
     (standing l.initial.bench l.initial.picture) (string_bytes l.initial.text) (standing l.bench l.picture) (string_bytes l.text)

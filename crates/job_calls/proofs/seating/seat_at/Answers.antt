@@ -9,4 +9,4 @@ returns-clause-admitted g c =
     let passes = map_passes h.width h.height h.joining _ c.requires.passed in
     let shows : window_of c.lay.new.map ≡ window c.args.values.now h.width h.height h.joining = search rules in
     admission (g.C.Criterion.judgement c.args.criterion.now) c.lay.new.map c.args.values.now h.width h.height h.joining shows passes.0 _ (c.requires.count ∙ passes.1)
-    c.seat.result c.map_err-2.result c.args.number c.seat.ensures.fault (search rules)
+    c.seat.result c.map_err.result c.args.number c.seat.ensures.fault (search rules)

@@ -1,4 +1,4 @@
-use Rattle.std.proofs.Common.{◌≡◌, ◌+◌, [], length, get_or, sym, refl, ap, ◌∙◌, arith, rules}
+use Rattle.std.proofs.Common.{◌+◌, sym, refl, ap, ◌∙◌, arith}
 use Rattle.std.proofs.lemmas.Result.{err_from_is_err_and}
 use Rattle.job_calls.specs.Calling.{takes_calls}
 use Rattle.job_calls.specs.Reading.{no_head}
@@ -6,35 +6,33 @@ use Rattle.job_calls.proofs.Tiles.{whole, goes_on, before_calls, bad_record, bad
 use Rattle.job_calls.proofs.tile.read_tile.Goals as goal
 
 pub loop-number-init : goal.loop-number-init
-loop-number-init c = rw (c.requires.start, c.requires.map, c.requires.picture) (no_head, refl)
+loop-number-init c = rw (c.new-reader.ensures, c.new-bytes.ensures.map, c.new-bytes.ensures.picture) (no_head, refl)
 
 pub returns-in_err-taken : goal.returns-in_err-taken
 returns-in_err-taken c =
     let l = c.loop-number in
     let p = err_from_is_err_and c.from_residual.result c.from_residual.ensures.1 in
-    rw (p.1, p.2) (bad_record c.args.records.now l.number l.invariant.0 l.invariant.1 c.args.left c.loop-number-test.true (sym c.in_err-taken.ensures.answer))
+    rw (p.1, p.2) (bad_record c.args.cut.records.now l.number l.invariant.0 l.invariant.1 c.args.cut.left c.loop-number-test.true (sym c.in_err-taken.ensures.answer))
 
-pub returns-in-Calls : goal.returns-in-Calls
-returns-in-Calls c =
+pub invariant_of-result-clause-tile : goal.invariant_of-result-clause-tile
+invariant_of-result-clause-tile c =
     let l = c.loop-number in
     let t = c.in_ok-taken.ensures in
     let add = c.in_ok-add.ensures in
-    let count : length (get_or c.args.records.now l.number []) ≡ 8 = search rules in
-    let on = goes_on c.args.records.now l.number l.invariant.0 l.invariant.1 c.loop-number-test.true (record { count = count; low = t.byte }) (sym t.answer) t.place add.map add.picture in
+    let on = goes_on c.args.cut.records.now l.number l.invariant.0 l.invariant.1 c.loop-number-test.true (record { count = t.count; low = t.byte }) (sym t.answer) t.place add.map add.picture in
     let here = sym c.place.ensures ∙ c.in-Calls.is in
-    (whole c.args.records.now (l.number + 1) c.in-Calls.head on here (omega arith) refl, here)
+    whole c.args.cut.records.now (l.number + 1) c.in-Calls.head on here (omega arith) refl
 
 pub loop-number-preserved : goal.loop-number-preserved
 loop-number-preserved c =
     let l = c.loop-number in
     let t = c.in_ok-taken.ensures in
     let add = c.in_ok-add.ensures in
-    let count : length (get_or c.args.records.now l.number []) ≡ 8 = search rules in
-    let on = goes_on c.args.records.now l.number l.invariant.0 l.invariant.1 c.loop-number-test.true (record { count = count; low = t.byte }) (sym t.answer) t.place add.map add.picture in
+    let on = goes_on c.args.cut.records.now l.number l.invariant.0 l.invariant.1 c.loop-number-test.true (record { count = t.count; low = t.byte }) (sym t.answer) t.place add.map add.picture in
     (on, ap takes_calls (sym c.place.ensures) ∙ before_calls c.place.result c.in_default.not-Calls)
 
-pub returns-in_err-head : goal.returns-in_err-head
-returns-in_err-head c =
+pub returns-in_err-end : goal.returns-in_err-end
+returns-in_err-end c =
     let l = c.loop-number in
-    let p = err_from_is_err_and c.from_residual-in_err-head.result c.from_residual-in_err-head.ensures.1 in
-    rw (p.1, p.2) (bad_end c.args.records.now l.number l.invariant.0 l.invariant.1 c.args.left (omega arith) (sym c.in_err-head.ensures))
+    let p = err_from_is_err_and c.from_residual-in_err-end.result c.from_residual-in_err-end.ensures.1 in
+    rw (p.1, p.2) (bad_end c.args.cut.records.now l.number l.invariant.0 l.invariant.1 c.args.cut.left (omega arith) (sym c.in_err-end.ensures))

@@ -4,4 +4,4 @@ use Rattle.job_calls.specs.Reading.{SoFar}
 use Rattle.job_calls.proofs.tile.read_tile.Given as goal
 
 abbrev pub invariant-loop-number : goal.invariant-loop-number
-invariant-loop-number l = SoFar l.tile.map.items l.tile.picture.items l.reader.place (take l.number l.records) × (takes_calls l.reader.place ≡ false)
+invariant-loop-number l = SoFar l.bytes.map.items l.bytes.picture.items l.reader.place (take l.number l.cut.records.now) × (takes_calls l.reader.place ≡ false)

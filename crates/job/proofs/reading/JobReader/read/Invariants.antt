@@ -7,5 +7,5 @@ abbrev pub invariant-loop-number : goal.invariant-loop-number
 invariant-loop-number l = record {
   few : l.self.calls ≤ l.number;
   filled : Filled (progress l.self);
-  read : (left : ℕ) → read_on 0 l.records left fresh ≡ read_on l.number (drop l.number l.records) left (progress l.self);
+  read : (left : ℕ) → read_on 0 l.cut.records.now left fresh ≡ read_on l.number (drop l.number l.cut.records.now) left (progress l.self);
 }
