@@ -10,9 +10,9 @@ use crate::seating::seat_at;
 use crate::tile::{TakenTile, read_tile};
 use crate::view::{Done, Inclusions, RowsAndNote, View};
 use bench::Bench;
-use criteria::Criterion;
+use criteria::{Criterion, Step, Tone, Turn};
 use maps::Map;
-use records::{Cut, Stop};
+use records::{ByteCriterion, Cut, Stop};
 use std::alloc::{AllocError, Global};
 
 impl TakenTile<'_> {
@@ -55,16 +55,19 @@ impl TakenTile<'_> {
         Ok(bench)
     }
 
-    // Filters a copy of the tile by the criterion that its head asks for, and adds the lines of its calls and the ending.
-    fn finish<V: View>(&self, heap: Global, text: &mut String) -> Result<(), Stop>
-        requires { string_bytes text.old ≡ [] }
+    // Filters a copy of the tile by this criterion, and adds the lines of its calls and the ending.
+    fn finish_by<V: View, C: Criterion<Value = u8>>(
+        &self,
+        criterion: &C,
+        heap: Global,
+        text: &mut String,
+    ) -> Result<(), Stop>
+        requires judged { C.judgement criterion.now ≡ judged self.now.head }
+        requires text { string_bytes text.old ≡ [] }
         ensures { Ends V.ending self.now.cut.records.now self.now.cut.left result (string_bytes text.new) }
     {
-        let Ok(criterion) = self.head.criterion() else {
-            unreachable()
-        };
         let mut picture = self.bytes.picture.to_vec(heap)?;
-        let bench = self.filter(&criterion, &mut picture, text)?;
+        let bench = self.filter(criterion, &mut picture, text)?;
         let levels = bench.levels();
         let done = Done {
             head: self.head,
@@ -75,6 +78,19 @@ impl TakenTile<'_> {
         };
         V::push(text, done)?;
         Ok(())
+    }
+
+    // The same by the criterion that the tile's head asks for. It is told apart here, once a job: a flood that asked at each test which
+    // of the three it has took up to half as long again.
+    fn finish<V: View>(&self, heap: Global, text: &mut String) -> Result<(), Stop>
+        requires { string_bytes text.old ≡ [] }
+        ensures { Ends V.ending self.now.cut.records.now self.now.cut.left result (string_bytes text.new) }
+    {
+        match self.head.criterion()? {
+            ByteCriterion::Step(step) => self.finish_by::<V, Step>(&step, heap, text),
+            ByteCriterion::Tone(tone) => self.finish_by::<V, Tone>(&tone, heap, text),
+            ByteCriterion::Turn(turn) => self.finish_by::<V, Turn>(&turn, heap, text),
+        }
     }
 }
 

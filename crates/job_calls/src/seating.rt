@@ -32,5 +32,5 @@ pub(crate) fn seat_at<'a, C: Criterion<Value = u8>>(
     let Ok(()) = head.lay(map, values) else {
         unreachable()
     };
-    bench::seat(&*map, criterion, picture).map_err(|fault| ReaderFault::Bench(fault, number))
+    bench::seat(&*map, criterion, picture).map_err(|fault| ReaderFault::from((fault, number)))
 }

@@ -2,7 +2,7 @@ use Rattle.std.proofs.Common.{◌≡◌, ◌++◌, string_bytes, refl, ◌∙◌
 use Rattle.std.proofs.lemmas.Grind.{common_steps}
 use Rattle.std.proofs.lemmas.Result.{err_from_is_err_and}
 use Rattle.job_calls.proofs.Ending.{left_off, printed}
-use Rattle.job_calls.proofs.tile.TakenTile.finish.Goals as goal
+use Rattle.job_calls.proofs.tile.TakenTile.finish_by.Goals as goal
 
 pub returns-in_err-bench : goal.returns-in_err-bench
 returns-in_err-bench g c =
