@@ -54,7 +54,7 @@ impl JobReader {
         self.tile.add(taken)?;
         match (taken, self.reader.place()) {
             (Record::Pixel(_, _), Place::Calls { head }) => {
-                lay(head, &self.tile.map).map_err(|fault| ReaderFault::Bench(fault, number))?;
+                lay(head, &self.tile.map).map_err(|fault| ReaderFault::from((fault, number)))?;
             }
             (Record::Call(_, _), _) => self.calls += 1,
             _ => {}

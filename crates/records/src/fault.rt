@@ -1,6 +1,7 @@
 // What can end a job.
 ghost use Rattle.std.specs.Prelude.{◌≡◌, Some};
 ghost use Rattle.lines.specs.Lines.{fault_text};
+ghost use Rattle.records.specs.declared.fault.ReaderFault.TheVariants.{Bench};
 ghost use Rattle.records.specs.Faults.{reader_code, record_of_fault};
 
 use bench::BenchFault;
@@ -21,6 +22,15 @@ pub enum ReaderFault {
     Filler(usize),
     // found by the bench layer, or below it
     Bench(BenchFault, usize),
+}
+
+// A fault from below, and the number of the record at which it was found.
+impl From<(BenchFault, usize)> for ReaderFault {
+    ghost from_gives = { λ p r. r ≡ Bench p.0 p.1 };
+
+    fn from(fault: (BenchFault, usize)) -> ReaderFault {
+        ReaderFault::Bench(fault.0, fault.1)
+    }
 }
 
 impl From<ReaderFault> for Code {

@@ -44,7 +44,7 @@ impl Reader {
             limit: *limit,
         };
         head.check()
-            .map_err(|fault| ReaderFault::Bench(fault, number))?;
+            .map_err(|fault| ReaderFault::from((fault, number)))?;
         self.place = Place::Pixels { head, next: 0 };
         Ok(Record::Head(head))
     }
