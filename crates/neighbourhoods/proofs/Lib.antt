@@ -7,4 +7,5 @@ pub mod Visiting
 pub mod Turning
 pub mod Drawing
 pub mod Showing
+pub mod Accepting
 pub mod Worked
