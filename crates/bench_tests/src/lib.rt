@@ -52,7 +52,7 @@ pub fn lower<C: Criterion, S: Scale>(
 
 #[cfg(test)]
 mod tests {
-    use bench::{Bench, BenchFault, Note};
+    use bench::{Bench, BenchFault, Note, Scratch};
     use criteria::{Step, Tolerance};
     use maps::Map;
     use morphology::Operation;
@@ -127,6 +127,49 @@ mod tests {
         assert!(rt; seat.finish().file() == [78, 63, 63, 65, 3, 0, 0, 0]);
         assert!(rt; picture == [2, 2, 2, 2, 4] && spare == [0; 6]);
         assert!(rt; bench::residue(&taken, &picture) == Ok(7));
+        Ok(())
+    }
+
+    // Each of the four calls by its own name.
+    #[test]
+    fn calls_by_name(rt: HostRuntime) -> Result<(), Fail> {
+        let step = Step::try_from(Tolerance::Step(10))?;
+        let mut map = Map::empty();
+        map.make(5, 1, 4, &WORKED)?;
+        let mut picture = [1u8, 9, 5, 5, 4];
+        let mut marks = [7; 5];
+        let mut queue = [7; 5];
+        let mut spare = [7; 5];
+        let mut seated = bench::seat(&map, &step, &picture)?;
+        let scratch = Scratch {
+            marks: &mut marks,
+            queue: &mut queue,
+            spare: &mut spare,
+        };
+        let opened = bench::open(&mut seated, &map, &step, &mut picture, scratch, 1);
+        assert!(rt; opened == Ok(0) && picture == [1, 5, 5, 5, 4]);
+        let scratch = Scratch {
+            marks: &mut marks,
+            queue: &mut queue,
+            spare: &mut spare,
+        };
+        let eroded = bench::erode(&mut seated, &map, &step, &mut picture, scratch, 1);
+        assert!(rt; eroded == Ok(-1) && picture == [1, 1, 1, 5, 4]);
+        let scratch = Scratch {
+            marks: &mut marks,
+            queue: &mut queue,
+            spare: &mut spare,
+        };
+        let dilated = bench::dilate(&mut seated, &map, &step, &mut picture, scratch, 1);
+        assert!(rt; dilated == Ok(0) && picture == [1, 5, 5, 5, 4]);
+        let scratch = Scratch {
+            marks: &mut marks,
+            queue: &mut queue,
+            spare: &mut spare,
+        };
+        let closed = bench::close(&mut seated, &map, &step, &mut picture, scratch, 1);
+        assert!(rt; closed == Ok(0) && picture == [5, 5, 5, 5, 4]);
+        assert!(rt; bench::finish(seated).file() == [78, 64, 63, 65, 4, 0, 0, 0]);
         Ok(())
     }
 
