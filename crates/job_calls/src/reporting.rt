@@ -80,8 +80,8 @@ impl TakenTile<'_> {
         Ok(())
     }
 
-    // The same by the criterion that the tile's head asks for. It is told apart here, once a job: a flood that asked at each test which
-    // of the three it has took up to half as long again.
+    // The same by the criterion that the tile's head asks for. It is told apart here, once a job: a flood that asks at each test which
+    // of the three it has takes up to half as long again.
     fn finish<V: View>(&self, heap: Global, text: &mut String) -> Result<(), Stop>
         requires { string_bytes text.old ≡ [] }
         ensures { Ends V.ending self.now.cut.records.now self.now.cut.left result (string_bytes text.new) }
